@@ -1,0 +1,3 @@
+pub mod Ending
+pub mod Pairs
+pub mod Run

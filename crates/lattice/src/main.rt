@@ -1,0 +1,32 @@
+//! The program: it makes the devices of the process, runs the command that the words give, and ends with the number
+//! of the status.
+#![tactic(auto)]
+
+use four_lattice::run::run;
+use four_lattice::status::Status;
+use std::env;
+use std::io::ErrorKind;
+use std::process::ExitCode;
+use wire_io::host::{HostSink, HostSource};
+
+fn main(rt: HostRuntime) -> ExitCode {
+    let words = match env::args(&rt) {
+        Ok(words) => words,
+        Err(fault) => {
+            return if fault.kind() == ErrorKind::OutOfMemory {
+                ExitCode::from(Status::NoMemory.number())
+            } else {
+                let _ = rt.eprintln("words refused");
+                ExitCode::from(Status::Words.number())
+            };
+        }
+    };
+    let Ok(words) = words.skip(1).collect::<Vec<String>>(rt.alloc()) else {
+        return ExitCode::from(Status::NoMemory.number());
+    };
+    let mut pla = HostSource::standard(&rt);
+    let mut out = HostSink::standard(&rt);
+    let mut notes = HostSink::errors(&rt);
+    let status = run(rt.alloc(), &words, &mut pla, &mut out, &mut notes);
+    ExitCode::from(status.number())
+}

@@ -1,0 +1,97 @@
+-- The members of a set in rising order.
+use Rattle.std.proofs.Common.{◌≡◌, ◌≢◌, ℕ, suc, zero, ◌^◌, ◌≤◌, ◌<◌, inl, inr, true, false, cond, List, [], ◌∷◌, ◌++◌, length, get_or, refl, sym, ap, ◌∙◌, subst, arith, length-append, add-zero}
+use Rattle.std.specs.Prelude.{All}
+use Rattle.std.specs.FinSet as set
+use Rattle.std.proofs.lemmas.Bool.Decides.{eqb_tells}
+use Rattle.std.proofs.lemmas.List.{get_or_append_left, get_or-append-add}
+use Rattle.std.proofs.lemmas.List.Elements.{All-nil, All-push, All-weaker}
+use Rattle.std.proofs.Math.Pow.{pow_mono}
+use Rattle.cube_core.specs.Members.{Assignments}
+use Rattle.cube_core.specs.Rising.{rising}
+use Rattle.cube_core.specs.Function.{Function, IsFunction}
+use Rattle.lattice_grid.specs.Pairs.{AreApart}
+
+-- a member below n
+abbrev pub IsBelowIn : ℕ → Assignments → ℕ → Type 0
+IsBelowIn n s x = (x < n) × (set.contains s x ≡ true)
+
+pub All-rising : (n : ℕ) (s : Assignments) → All (IsBelowIn n s) (rising n s)
+All-rising zero s = All-nil (IsBelowIn zero s)
+All-rising (suc n) s =
+    let before : All (IsBelowIn (suc n) s) (rising n s) = All-weaker (IsBelowIn n s) (IsBelowIn (suc n) s) (λ x h. (omega (arith, h.0), h.1)) (rising n s) (All-rising n s) in
+    elim (set.contains s n) as (λ b. set.contains s n ≡ b → All (IsBelowIn (suc n) s) (cond b (rising n s ++ n ∷ []) (rising n s))) [
+      | true ↦ λ here. All-push (IsBelowIn (suc n) s) (rising n s) n before (omega arith, here)
+      | false ↦ λ _. before
+    ] refl
+
+pub length-rising : (n : ℕ) (s : Assignments) → length (rising n s) ≤ n
+length-rising zero s = omega arith
+length-rising (suc n) s =
+    let before = length-rising n s in
+    elim (set.contains s n) as (λ b. length (cond b (rising n s ++ n ∷ []) (rising n s)) ≤ suc n) [
+      | true ↦ omega (arith, length-append (rising n s) (n ∷ []), before)
+      | false ↦ omega (arith, before)
+    ]
+
+-- an element of a list, with its place
+pub record HasPlace (xs : List ℕ) (x : ℕ) : Type 0 where
+  pub place : ℕ
+  pub within : place < length xs
+  pub here : (d : ℕ) → get_or xs place d ≡ x
+
+HasPlace-append : (xs ys : List ℕ) (x : ℕ) → HasPlace xs x → HasPlace (xs ++ ys) x
+HasPlace-append xs ys x h = record {
+  place = h.place;
+  within = omega (arith, h.within, length-append xs ys);
+  here = λ d. get_or_append_left xs ys d h.place h.within ∙ h.here d;
+}
+
+HasPlace-push : (xs : List ℕ) (x : ℕ) → HasPlace (xs ++ x ∷ []) x
+HasPlace-push xs x = record {
+  place = length xs;
+  within = omega (arith, length-append xs (x ∷ []));
+  here = λ d. ap (λ i. get_or (xs ++ x ∷ []) i d) (sym (add-zero (length xs))) ∙ get_or-append-add xs (x ∷ []) 0 d;
+}
+
+pub HasPlace-rising : (n : ℕ) (s : Assignments) (x : ℕ) → x < n → set.contains s x ≡ true → HasPlace (rising n s) x
+HasPlace-rising zero s x below here = absurd (omega arith)
+HasPlace-rising (suc n) s x below here = elim (eqb_tells x n) [
+  | inl same ↦ subst (λ b. HasPlace (cond b (rising n s ++ n ∷ []) (rising n s)) x) (sym (ap (set.contains s) (sym same.1) ∙ here))
+      (subst (λ y. HasPlace (rising n s ++ n ∷ []) y) (sym same.1) (HasPlace-push (rising n s) n))
+  | inr other ↦
+      let ne : x ≢ n = other.1 in
+      let before : HasPlace (rising n s) x = HasPlace-rising n s x (omega arith) here in
+      elim (set.contains s n) as (λ b. HasPlace (cond b (rising n s ++ n ∷ []) (rising n s)) x) [
+        | true ↦ HasPlace-append (rising n s) (n ∷ []) x before
+        | false ↦ before
+      ]
+]
+
+-- no on assignment is an off assignment
+pub rising_apart : (f : Function) → IsFunction f → All (λ off. All (λ on. on ≢ off) (rising (2 ^ f.inputs) f.on)) (rising (2 ^ f.inputs) f.off)
+rising_apart f h = All-weaker (IsBelowIn (2 ^ f.inputs) f.off) _
+    (λ off in_off. All-weaker (IsBelowIn (2 ^ f.inputs) f.on) (λ on. on ≢ off)
+    (λ on in_on same. h.disjoint on in_on.1 (subst (λ x. set.contains f.off x ≡ true) (sym same) in_off.1)) _ (All-rising (2 ^ f.inputs) f.on))
+    _ (All-rising (2 ^ f.inputs) f.off)
+
+few_assignments : (n : ℕ) → n ≤ 10 → 2 ^ n ≤ 1024
+few_assignments n few = pow_mono few
+
+pub length-rising_few : (f : Function) (s : Assignments) → IsFunction f → length (rising (2 ^ f.inputs) s) ≤ 1024
+length-rising_few f s h = let few = few_assignments f.inputs h.few in omega (arith, length-rising (2 ^ f.inputs) s, few)
+
+pub rising_below : (f : Function) (s : Assignments) → IsFunction f → All (λ x. x < 1024) (rising (2 ^ f.inputs) s)
+rising_below f s h = let few = few_assignments f.inputs h.few in All-weaker (IsBelowIn (2 ^ f.inputs) s) (λ x. x < 1024) (λ x k. omega (arith, k.0, few)) _ (All-rising (2 ^ f.inputs) s)
+
+pub rising_AreApart : (f : Function) → IsFunction f → AreApart (rising (2 ^ f.inputs) f.on) (rising (2 ^ f.inputs) f.off)
+rising_AreApart f h = record {
+  apart = rising_apart f h;
+  ons_below = rising_below f f.on h;
+  offs_below = rising_below f f.off h;
+  few_ons = length-rising_few f f.on h;
+  few_offs = length-rising_few f f.off h;
+}
+
+-- the same, of lists that are these
+pub AreApart-read : (f : Function) → IsFunction f → (ons offs : List ℕ) → ons ≡ rising (2 ^ f.inputs) f.on → offs ≡ rising (2 ^ f.inputs) f.off → AreApart ons offs
+AreApart-read f h ons offs p q = rw (p, q) (rising_AreApart f h)

@@ -1,0 +1,9 @@
+//! Rectangles of switches, what they join, and the lattice of pairs.
+#![tactic(auto)]
+
+pub mod control;
+pub mod grid;
+pub mod neighbours;
+pub mod pairs;
+pub mod repeat;
+pub mod shape;

@@ -1,0 +1,68 @@
+use cube_core::assign::Assign;
+use cube_core::spec::Spec;
+use cube_core::table::Table;
+use lattice_grid::control::Control;
+use lattice_grid::grid::Grid;
+use lattice_grid::neighbours::{eight, four};
+use lattice_grid::pairs::pairs;
+use lattice_grid::shape::{Place, Shape};
+use std::test::Fail;
+
+/// The two-input functions that are 1 at exactly one input being 1.
+fn exclusive_or() -> Option<Spec> {
+    let mut on = Table::empty();
+    on.add(Assign::new(1)?);
+    on.add(Assign::new(2)?);
+    let mut off = Table::empty();
+    off.add(Assign::new(0)?);
+    off.add(Assign::new(3)?);
+    Spec::new(2, on, off)
+}
+
+#[test]
+fn pairs_of_exclusive_or(rt: HostRuntime) -> Result<(), Fail> {
+    let spec = exclusive_or().ok_or("a function")?;
+    let grid = pairs(rt.alloc(), &spec)?;
+    assert_eq!(rt; grid.shape().rows(), 2);
+    assert_eq!(rt;
+        grid.row(0),
+        [Control::Plain(0), Control::Plain(1)].as_slice()
+    );
+    assert_eq!(rt; grid.row(1), [Control::Bar(1), Control::Bar(0)].as_slice());
+    assert!(rt; grid.names_below(2));
+    assert!(rt; !grid.names_below(1));
+    Ok(())
+}
+
+#[test]
+fn last_row_and_column_once_more(rt: HostRuntime) -> Result<(), Fail> {
+    let cells = [
+        Control::Zero,
+        Control::Plain(3),
+        Control::One,
+        Control::Bar(2),
+    ]
+    .to_vec(rt.alloc())?;
+    let grid = Grid::new(Shape::new(2, 2).ok_or("a shape")?, cells).ok_or("a lattice")?;
+    let taller = grid.repeat_row(rt.alloc())?;
+    assert_eq!(rt; taller.row(2), [Control::One, Control::Bar(2)].as_slice());
+    let wider = grid.repeat_col(rt.alloc())?;
+    assert_eq!(rt;
+        wider.row(0),
+        [Control::Zero, Control::Plain(3), Control::Plain(3)].as_slice()
+    );
+    Ok(())
+}
+
+#[test]
+fn neighbours_of_a_corner(rt: HostRuntime) -> Result<(), Fail> {
+    let shape = Shape::new(3, 3).ok_or("a shape")?;
+    let around = four(shape, Place { row: 0, col: 1 });
+    let last = Place { row: 1, col: 1 };
+    assert_eq!(rt;
+        around.as_slice(),
+        [Place { row: 0, col: 0 }, Place { row: 0, col: 2 }, last].as_slice()
+    );
+    assert_eq!(rt; eight(shape, last).as_slice().len(), 8);
+    Ok(())
+}

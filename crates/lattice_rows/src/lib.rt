@@ -1,0 +1,9 @@
+//! Runs of the commands over texts in memory, and the devices of the process.
+#![tactic(auto)]
+
+#[cfg(test)]
+mod devices;
+#[cfg(test)]
+mod lattices;
+#[cfg(test)]
+mod pairs;

@@ -1,0 +1,7 @@
+pub mod Causes
+pub mod Told
+pub mod Passing
+pub mod Laws
+pub mod Firm
+pub mod Pieces
+pub mod Memory
