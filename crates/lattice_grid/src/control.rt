@@ -1,7 +1,7 @@
 //! What a switch is controlled by.
 use cube_core::assign::Assign;
 
-/// A constant, an input, or the complement of an input.
+/// What a switch is controlled by: a constant, an input, or the complement of an input. Inputs are counted from 0 and are below 10.
 #[derive(Clone, Copy, Debug, PartialEq, Eq)]
 pub enum Control {
     Zero,

@@ -40,13 +40,14 @@ impl Grid {
         }
     }
 
+    /// How many rows and columns it has.
     pub fn shape(&self) -> Shape
         ensures { result ≡ self.now.size }
     {
         self.shape
     }
 
-    /// The control at a place.
+    /// The control at a place, which is to be inside.
     pub fn at(&self, p: Place) -> Control
         requires row { p.row < self.now.size.rows }
         requires col { p.col < self.now.size.cols }
@@ -56,7 +57,7 @@ impl Grid {
         self.cells[(p.row * self.shape.cols() + p.col) as usize]
     }
 
-    /// The cells of a row, from the left.
+    /// The cells of a row, from the left; the row is to be inside.
     pub fn row(&self, row: u32) -> &[Control]
         requires { row < self.now.size.rows }
         ensures cells { result.now ≡ row_cells self.now row }
@@ -67,7 +68,7 @@ impl Grid {
         &self.cells[start..start + cols]
     }
 
-    /// Whether the cell at a place is on.
+    /// Whether the cell at a place, which is to be inside, is on at an assignment.
     pub fn is_on(&self, p: Place, x: Assign) -> bool
         requires row { p.row < self.now.size.rows }
         requires col { p.col < self.now.size.cols }

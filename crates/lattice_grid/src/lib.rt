@@ -5,5 +5,5 @@ pub mod control;
 pub mod grid;
 pub mod neighbours;
 pub mod pairs;
-pub mod repeat;
+mod repeat;
 pub mod shape;

@@ -29,6 +29,7 @@ impl Model for Shape {
 impl Shape {
     ghost use Rattle.lattice_grid.specs.Rectangle.{Size, IsSize};
 
+    /// None exactly where there is no row, no column, or more than `CELLS` cells.
     pub fn new(rows: u32, cols: u32) -> Option<Shape>
         ensures { SomeIff result (IsSize (record { rows = rows; cols = cols })) (record { rows = rows; cols = cols }) }
     {
@@ -39,6 +40,7 @@ impl Shape {
         }
     }
 
+    /// The number of rows, at least 1.
     pub fn rows(self) -> u32
         ensures same { result ≡ self.rows }
         ensures size { IsSize self }
@@ -46,6 +48,7 @@ impl Shape {
         self.rows
     }
 
+    /// The number of columns, at least 1.
     pub fn cols(self) -> u32
         ensures same { result ≡ self.cols }
         ensures size { IsSize self }
@@ -53,6 +56,7 @@ impl Shape {
         self.cols
     }
 
+    /// The number of cells, rows times columns.
     pub fn area(self) -> u32
         ensures { result ≡ self.rows * self.cols }
     {
@@ -60,7 +64,7 @@ impl Shape {
     }
 }
 
-/// A cell of a rectangle, counted from the top left.
+/// A cell of a rectangle by its row and its column, both counted from 0 at the top left.
 #[derive(Clone, Copy, Debug, Default, PartialEq, Eq)]
 pub struct Place {
     pub row: u32,

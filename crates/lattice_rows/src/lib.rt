@@ -7,3 +7,5 @@ mod devices;
 mod lattices;
 #[cfg(test)]
 mod pairs;
+#[cfg(test)]
+mod paths;

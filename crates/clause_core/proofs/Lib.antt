@@ -1,0 +1,10 @@
+pub mod Literals
+pub mod PiecesLaws
+pub mod BatchLaws
+pub mod WriteLaws
+pub mod TextLaws
+pub mod DraftLaws
+pub mod ReadLaws
+pub mod NumberLaws
+pub mod PrintedLaws
+pub mod RoundTrip

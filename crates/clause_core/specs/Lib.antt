@@ -1,0 +1,10 @@
+pub mod Literal
+pub mod Formula
+pub mod Pieces
+pub mod Batch
+pub mod Cnf
+pub mod Text
+pub mod Number
+pub mod CnfRead
+pub mod Draft
+pub mod RoundTrip

@@ -1,0 +1,24 @@
+//! Literals, clauses, formulas and valuations, and CNF text.
+#![tactic(auto)]
+
+ghost use Rattle.clause_core.specs.RoundTrip.{IsRoundTrip};
+
+pub mod batch;
+pub mod clauses;
+mod draft;
+pub mod formula;
+pub mod lit;
+pub mod number;
+pub mod read;
+pub mod refusal;
+pub mod rows;
+#[cfg(test)]
+mod tests;
+pub mod text;
+pub mod valuation;
+pub mod write;
+
+/// What is written is read, of all formulas within the limits of a read text.
+pub fn round_trip()
+    ensures { IsRoundTrip }
+{}

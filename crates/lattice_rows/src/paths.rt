@@ -1,0 +1,62 @@
+use cube_core::assign::Assign;
+use cube_core::spec::Spec;
+use cube_core::table::Table;
+use lattice_grid::control::Control;
+use lattice_grid::grid::Grid;
+use lattice_grid::pairs::pairs;
+use lattice_grid::shape::Shape;
+use path_meaning::marks::Marks;
+use path_meaning::paths::{cut, joins};
+use path_meaning::realise::realises;
+use std::test::Fail;
+
+/// The function of two inputs that is 1 where exactly one of them is.
+fn exclusive_or() -> Option<Spec> {
+    let mut on = Table::empty();
+    on.add(Assign::new(1)?);
+    on.add(Assign::new(2)?);
+    let mut off = Table::empty();
+    off.add(Assign::new(0)?);
+    off.add(Assign::new(3)?);
+    Spec::new(2, on, off)
+}
+
+#[test]
+fn corner_to_corner_is_cut(rt: HostRuntime) -> Result<(), Fail> {
+    let cells = [
+        Control::Plain(0),
+        Control::Bar(0),
+        Control::Bar(0),
+        Control::Plain(0),
+    ]
+    .to_vec(rt.alloc())?;
+    let grid = Grid::new(Shape::new(2, 2).ok_or("a shape")?, cells).ok_or("a lattice")?;
+    let mut marks = Marks::new(rt.alloc(), 4)?;
+    let one = Assign::new(1).ok_or("an assignment")?;
+    assert_eq!(rt; marks.cells(), 4);
+    assert!(rt; !joins(&grid, one, &mut marks));
+    assert!(rt; cut(&grid, one, &mut marks));
+    Ok(())
+}
+
+#[test]
+fn pairs_realise(rt: HostRuntime) -> Result<(), Fail> {
+    let spec = exclusive_or().ok_or("a function")?;
+    let grid = pairs(rt.alloc(), &spec)?;
+    let mut marks = Marks::new(rt.alloc(), grid.shape().area())?;
+    assert_eq!(rt; realises(&spec, &grid, &mut marks), Ok(()));
+    Ok(())
+}
+
+#[test]
+fn least_failure(rt: HostRuntime) -> Result<(), Fail> {
+    let spec = exclusive_or().ok_or("a function")?;
+    let cells = [Control::Plain(0)].to_vec(rt.alloc())?;
+    let grid = Grid::new(Shape::new(1, 1).ok_or("a shape")?, cells).ok_or("a lattice")?;
+    let mut marks = Marks::new(rt.alloc(), 1)?;
+    assert_eq!(rt;
+        realises(&spec, &grid, &mut marks),
+        Err(Assign::new(2).ok_or("an assignment")?)
+    );
+    Ok(())
+}

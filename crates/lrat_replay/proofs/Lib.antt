@@ -1,0 +1,14 @@
+pub mod Turns
+pub mod Runs
+pub mod Sound
+pub mod MarksLaws
+pub mod TurnSteps
+pub mod HintsLaws
+pub mod RisingLaws
+pub mod StoreLaws
+pub mod DeletionLaws
+pub mod DenyLaws
+pub mod ReplayLaws
+pub mod LratLaws
+pub mod ReadLaws
+pub mod StepLaws

@@ -1,0 +1,12 @@
+pub mod Turn
+pub mod TurnStep
+pub mod Book
+pub mod Laws
+pub mod New
+pub mod Marks
+pub mod Hints
+pub mod Store
+pub mod Replay
+pub mod LratRead
+pub mod LratText
+pub mod StepRead

@@ -1,0 +1,26 @@
+//! Replay of clause proofs, and LRAT text.
+#![tactic(auto)]
+
+ghost use Rattle.lrat_replay.specs.Laws.{IsSound, IsRefutationSound};
+
+mod deny;
+pub mod fault;
+mod hints;
+pub mod line;
+pub mod marks;
+mod place;
+pub mod read;
+pub mod refusal;
+pub mod replay;
+pub mod step_text;
+mod store;
+#[cfg(test)]
+mod tests;
+pub mod turn;
+pub mod write;
+
+/// What replay shows, of all formulas and all lines.
+pub fn soundness()
+    ensures steps { IsSound }
+    ensures refutations { IsRefutationSound }
+{}

@@ -1,0 +1,15 @@
+pub mod Walks
+pub mod Steps
+pub mod Never
+pub mod Reach
+pub mod Borders
+pub mod Decisions
+pub mod Closed
+pub mod Sides
+pub mod Least
+pub mod Refuted
+pub mod Fits
+pub mod Examples
+pub mod StampLaws
+pub mod FloodLaws
+pub mod Larger

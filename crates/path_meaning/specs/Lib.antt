@@ -1,0 +1,6 @@
+pub mod Closed
+pub mod Crossing
+pub mod Failing
+pub mod Fitting
+pub mod Flood
+pub mod Stamps
