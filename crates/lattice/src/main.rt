@@ -4,10 +4,19 @@
 
 use four_lattice::run::run;
 use four_lattice::status::Status;
+use std::alloc::{AllocError, Global};
 use std::env;
 use std::io::ErrorKind;
 use std::process::ExitCode;
 use wire_io::host::{HostSink, HostSource};
+
+/// The file that the last word names.
+fn last_word(alloc: Global, words: &[String]) -> Result<String, AllocError> {
+    match words.last() {
+        Some(word) => word.clone(),
+        None => Ok(String::new(alloc)),
+    }
+}
 
 fn main(rt: HostRuntime) -> ExitCode {
     let words = match env::args(&rt) {
@@ -24,9 +33,20 @@ fn main(rt: HostRuntime) -> ExitCode {
     let Ok(words) = words.skip(1).collect::<Vec<String>>(rt.alloc()) else {
         return ExitCode::from(Status::NoMemory.number());
     };
+    let Ok(path) = last_word(rt.alloc(), &words) else {
+        return ExitCode::from(Status::NoMemory.number());
+    };
     let mut pla = HostSource::standard(&rt);
+    let mut side = HostSource::file(&rt, path);
     let mut out = HostSink::standard(&rt);
     let mut notes = HostSink::errors(&rt);
-    let status = run(rt.alloc(), &words, &mut pla, &mut out, &mut notes);
+    let status = run(
+        rt.alloc(),
+        &words,
+        &mut pla,
+        &mut side,
+        &mut out,
+        &mut notes,
+    );
     ExitCode::from(status.number())
 }

@@ -33,9 +33,10 @@ fn pairs_words(alloc: Global) -> Result<Vec<String>, Fail> {
 fn try_row(rt: &impl Abort, alloc: Global, row: &Row) -> Result<(), Fail> {
     let words = pairs_words(alloc)?;
     let mut pla = FirmSource::new(row.text.as_bytes().to_vec(alloc)?, 4);
+    let mut side = FirmSource::new(Vec::new(alloc), 4);
     let mut out = FirmSink::new(alloc, 4000, 7)?;
     let mut notes = FirmSink::new(alloc, 200, 1)?;
-    let status = run(alloc, &words, &mut pla, &mut out, &mut notes);
+    let status = run(alloc, &words, &mut pla, &mut side, &mut out, &mut notes);
     assert_eq!(rt; status, row.status);
     assert_eq!(rt; out.bytes(), row.out.as_bytes());
     assert_eq!(rt; notes.bytes(), row.notes.as_bytes());
@@ -88,9 +89,10 @@ fn texts(rt: HostRuntime) -> Result<(), Fail> {
 fn no_words(rt: HostRuntime) -> Result<(), Fail> {
     let alloc = rt.alloc();
     let mut pla = FirmSource::new(AND.as_bytes().to_vec(alloc)?, 4);
+    let mut side = FirmSource::new(Vec::new(alloc), 4);
     let mut out = FirmSink::new(alloc, 200, 7)?;
     let mut notes = FirmSink::new(alloc, 200, 1)?;
-    let status = run(alloc, &[], &mut pla, &mut out, &mut notes);
+    let status = run(alloc, &[], &mut pla, &mut side, &mut out, &mut notes);
     assert_eq!(rt; status, Status::Words);
     assert_eq!(rt; status.number(), 1);
     assert_eq!(rt; notes.bytes(), b"words refused\n".as_slice());
@@ -103,9 +105,10 @@ fn a_source_that_fails(rt: HostRuntime) -> Result<(), Fail> {
     let alloc = rt.alloc();
     let words = pairs_words(alloc)?;
     let mut pla = MemorySource::new(AND.as_bytes().to_vec(alloc)?, 4, vec![in alloc; 2]?);
+    let mut side = MemorySource::new(Vec::new(alloc), 4, Vec::new(alloc));
     let mut out = MemorySink::new(alloc, 200, 7, Vec::new(alloc))?;
     let mut notes = MemorySink::new(alloc, 200, 1, Vec::new(alloc))?;
-    let status = run(alloc, &words, &mut pla, &mut out, &mut notes);
+    let status = run(alloc, &words, &mut pla, &mut side, &mut out, &mut notes);
     assert_eq!(rt; status, Status::ReadFault);
     assert_eq!(rt; notes.bytes(), b"read fault\n".as_slice());
     assert_eq!(rt; out.bytes().len(), 0);
@@ -117,9 +120,10 @@ fn a_sink_that_fails(rt: HostRuntime) -> Result<(), Fail> {
     let alloc = rt.alloc();
     let words = pairs_words(alloc)?;
     let mut pla = MemorySource::new(AND.as_bytes().to_vec(alloc)?, 4, Vec::new(alloc));
+    let mut side = MemorySource::new(Vec::new(alloc), 4, Vec::new(alloc));
     let mut out = MemorySink::new(alloc, 200, 1, vec![in alloc; 2]?)?;
     let mut notes = MemorySink::new(alloc, 200, 1, Vec::new(alloc))?;
-    let status = run(alloc, &words, &mut pla, &mut out, &mut notes);
+    let status = run(alloc, &words, &mut pla, &mut side, &mut out, &mut notes);
     assert_eq!(rt; status, Status::WriteFault);
     assert_eq!(rt; out.bytes(), b"l".as_slice());
     assert_eq!(rt; notes.bytes(), b"write fault\n".as_slice());
@@ -130,9 +134,10 @@ fn a_sink_that_fails(rt: HostRuntime) -> Result<(), Fail> {
 fn notes_that_fail(rt: HostRuntime) -> Result<(), Fail> {
     let alloc = rt.alloc();
     let mut pla = MemorySource::new(Vec::new(alloc), 4, Vec::new(alloc));
+    let mut side = MemorySource::new(Vec::new(alloc), 4, Vec::new(alloc));
     let mut out = MemorySink::new(alloc, 200, 1, Vec::new(alloc))?;
     let mut notes = MemorySink::new(alloc, 200, 1, vec![in alloc; 3]?)?;
-    let status = run(alloc, &[], &mut pla, &mut out, &mut notes);
+    let status = run(alloc, &[], &mut pla, &mut side, &mut out, &mut notes);
     assert_eq!(rt; status, Status::Words);
     assert_eq!(rt; notes.bytes(), b"wo".as_slice());
     Ok(())

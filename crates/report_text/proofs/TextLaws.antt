@@ -7,7 +7,8 @@ use Rattle.pla_reader.specs.declared.name.Name.{Name}
 use Rattle.pla_reader.specs.Names.{bytes_of}
 use Rattle.std.specs.Prelude.{codes, decimal}
 use Rattle.report_text.specs.declared.answer.Answer.{Answer}
-use Rattle.report_text.specs.Report.{names_text, block_text, answer_text, head_text}
+use Rattle.report_text.specs.declared.answer.Block.{Block}
+use Rattle.report_text.specs.Report.{names_text, block_text, blocks_text, answer_text, head_text, parts_of_block}
 use Rattle.lattice_grid.specs.declared.control.Control.{Control}
 use Rattle.lattice_grid.specs.Lattice.{Lattice, row_cells}
 use Rattle.report_text.specs.Cells.{control_text, cells_text, line_text, rows_from, grid_text}
@@ -59,3 +60,10 @@ block_text-parts output name answer = ap (λ w. codes "output " ++ (decimal outp
 pub head_text-parts : (names : List (List ℕ)) → head_text names ≡ codes "lattice report 1\ninputs" ++ (names_text names ++ (10 ∷ []))
 unfolding head_text
 head_text-parts names = refl
+
+abbrev pub written_block : Block → List ℕ
+written_block block = block_text (parts_of_block block)
+
+pub blocks_text-blocks : (blocks : List Block) → blocks_text (map parts_of_block blocks) ≡ flat_map written_block blocks
+blocks_text-blocks [] = refl
+blocks_text-blocks (block ∷ blocks) = ap (λ w. written_block block ++ w) (blocks_text-blocks blocks)

@@ -1,9 +1,10 @@
 -- The text of a lattice: a line for each row, a word for each cell.
-use Rattle.std.specs.Prelude.{ℕ, suc, zero, ◌+◌, List, [], ◌∷◌, ◌++◌, codes}
+use Rattle.std.specs.Prelude.{◌≡◌, length, All, ℕ, suc, zero, ◌+◌, List, [], ◌∷◌, ◌++◌, codes}
 use Rattle.std.specs.List.{flat_map}
 use Rattle.std.specs.Fmt.{decimal}
 use Rattle.lattice_grid.specs.declared.control.Control.{Control}
 use Rattle.lattice_grid.specs.declared.control.Control.TheVariants.{Zero, One, Plain, Bar}
+use Rattle.lattice_grid.specs.Control.{NamesBelow}
 use Rattle.lattice_grid.specs.Lattice.{Lattice, row_cells}
 use Rattle.lattice_grid.specs.Rectangle.{Size}
 
@@ -19,8 +20,17 @@ abbrev pub cells_text : List ℕ → List Control → List ℕ
 cells_text lead [] = []
 cells_text lead (c ∷ cells) = (lead ++ control_text c) ++ cells_text (32 ∷ []) cells
 
+-- the cells of a row, separated by blanks
+abbrev pub row_text : List Control → List ℕ
+row_text cells = cells_text [] cells
+
 abbrev pub line_text : List Control → List ℕ
-line_text cells = cells_text [] cells ++ 10 ∷ []
+line_text cells = row_text cells ++ 10 ∷ []
+
+-- so many cells, each an input from 0 to 9 or a constant
+pub record IsRow (cols : ℕ) (row : List Control) : Type 0 where
+  pub many : length row ≡ cols
+  pub inputs : All (NamesBelow 10) row
 
 -- the rows from this one on, so many
 abbrev pub rows_from : ℕ → ℕ → Lattice → List (List Control)

@@ -6,9 +6,9 @@ ghost use Rattle.wire_io.specs.Told.{Gains, GainsFront};
 ghost use Rattle.lattice_grid.specs.Control.{NamesBelow};
 ghost use Rattle.pla_reader.specs.Names.{bytes_of};
 ghost use Rattle.report_text.specs.Cells.{control_text, line_text, grid_text, size_text};
-ghost use Rattle.report_text.specs.Report.{answer_text, lattice_text, bound_text, block_text, head_text, names_text, parts_of_block};
+ghost use Rattle.report_text.specs.Report.{answer_text, lattice_text, bound_text, block_text, blocks_text, head_text, names_text, report_text, parts_of_block, parts_of_report};
 
-use crate::answer::{Answer, Block};
+use crate::answer::{Answer, Block, Report};
 use indexmap::IndexSet;
 use itoa::Buffer as Digits;
 use lattice_grid::control::Control;
@@ -209,17 +209,26 @@ fn put_names<K: Sink>(buffer: &mut Buffer, sink: &mut K, names: &[Name]) -> Resu
 }
 
 /// Writes the two lines before the blocks, or a front of them where the sink fails.
+fn put_head<K: Sink>(sink: &mut K, names: &[Name]) -> Result<(), Failed>
+    ensures ok { OnOk result (Gains (K.got sink.old) (K.got sink.new) (head_text (map bytes_of names.now))) }
+    ensures front { GainsFront (K.got sink.old) (K.got sink.new) (head_text (map bytes_of names.now)) }
+    ensures cause { HasCause (K.faults sink.old) (K.faults sink.new) result }
+{
+    let mut buffer = Buffer::new();
+    buffer.put(sink, b"lattice report 1\ninputs")?;
+    put_names(&mut buffer, sink, names)?;
+    buffer.put(sink, b"\n")?;
+    buffer.flush(sink)?;
+    Ok(())
+}
+
+/// Writes the two lines before the blocks, or a front of them where the sink fails.
 pub fn write_head<K: Sink>(sink: &mut K, names: &IndexSet<Name>) -> Result<(), Failed>
     ensures ok { OnOk result (Gains (K.got sink.old) (K.got sink.new) (head_text (map bytes_of names.now.keys))) }
     ensures front { GainsFront (K.got sink.old) (K.got sink.new) (head_text (map bytes_of names.now.keys)) }
     ensures cause { HasCause (K.faults sink.old) (K.faults sink.new) result }
 {
-    let mut buffer = Buffer::new();
-    buffer.put(sink, b"lattice report 1\ninputs")?;
-    put_names(&mut buffer, sink, names.as_slice())?;
-    buffer.put(sink, b"\n")?;
-    buffer.flush(sink)?;
-    Ok(())
+    put_head(sink, names.as_slice())
 }
 
 /// Writes the last line, or a front of it where the sink fails.
@@ -229,4 +238,28 @@ pub fn write_end<K: Sink>(sink: &mut K) -> Result<(), Failed>
     ensures cause { HasCause (K.faults sink.old) (K.faults sink.new) result }
 {
     write_all(sink, b"end\n")
+}
+
+/// Writes blocks, or a front of them where the sink fails.
+fn put_blocks<K: Sink>(sink: &mut K, blocks: &[Block]) -> Result<(), Failed>
+    ensures ok { OnOk result (Gains (K.got sink.old) (K.got sink.new) (blocks_text (map parts_of_block blocks.now))) }
+    ensures front { GainsFront (K.got sink.old) (K.got sink.new) (blocks_text (map parts_of_block blocks.now)) }
+    ensures cause { HasCause (K.faults sink.old) (K.faults sink.new) result }
+{
+    for block in blocks {
+        write_block(sink, block)?;
+    }
+    Ok(())
+}
+
+/// Writes a report, or a front of it where the sink fails.
+pub fn write_report<K: Sink>(sink: &mut K, report: &Report) -> Result<(), Failed>
+    ensures ok { OnOk result (Gains (K.got sink.old) (K.got sink.new) (report_text (parts_of_report report.now))) }
+    ensures front { GainsFront (K.got sink.old) (K.got sink.new) (report_text (parts_of_report report.now)) }
+    ensures cause { HasCause (K.faults sink.old) (K.faults sink.new) result }
+{
+    put_head(sink, &report.input_names)?;
+    put_blocks(sink, &report.blocks)?;
+    write_end(sink)?;
+    Ok(())
 }
