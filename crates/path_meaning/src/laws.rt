@@ -1,13 +1,15 @@
 //! Laws of paths and cuts. The functions do nothing: a caller learns the law.
 ghost use Rattle.path_meaning.specs.Closed.{IsCutRefuted, IsJoinedRefuted};
-ghost use Rattle.path_meaning.specs.Crossing.{IsEitherOr, IsJoinedOrCut, IsNeverBoth};
+ghost use Rattle.path_meaning.specs.Crossing.{IsEitherOr, IsEitherOrWithStuckCells, IsJoinedOrCut, IsNeverBoth};
 ghost use Rattle.path_meaning.specs.Fitting.{IsFitting, IsRealisedLarger, IsRepeatJoined};
 
-/// Whatever cells of a rectangle are on, exactly one of a path and a cut stands in it.
+/// Whatever cells of a rectangle are on, exactly one of a path and a cut stands in it; so too in a lattice some of whose
+/// cells are stuck, be they never on or always.
 pub fn crossing()
     ensures at_least_one { IsJoinedOrCut }
     ensures never_both { IsNeverBoth }
     ensures either_or { IsEitherOr }
+    ensures stuck { IsEitherOrWithStuckCells }
 {}
 
 /// No path, or no cut, stands exactly where a closed set of cells stops short of the far side.
