@@ -25,7 +25,10 @@ pub struct HostSource<'r, R: Input + Files> {
 }
 
 impl<'r, R: Input + Files> HostSource<'r, R> {
-    pub fn standard(rt: &'r R) -> HostSource<'r, R> {
+    /// The standard input. No call of it has failed yet.
+    pub fn standard(rt: &'r R) -> HostSource<'r, R>
+        ensures { result.faults ≡ 0 }
+    {
         HostSource {
             rt,
             origin: Origin::Standard,
@@ -33,8 +36,10 @@ impl<'r, R: Input + Files> HostSource<'r, R> {
         }
     }
 
-    /// The file of this path. It is opened at the first call.
-    pub fn file(rt: &'r R, path: String) -> HostSource<'r, R> {
+    /// The file of this path. It is opened at the first call; no call of it has failed yet.
+    pub fn file(rt: &'r R, path: String) -> HostSource<'r, R>
+        ensures { result.faults ≡ 0 }
+    {
         HostSource {
             rt,
             origin: Origin::Named(path),
@@ -85,6 +90,7 @@ impl<'r, R: Input + Files> Source for HostSource<'r, R> {
         taken.ok_or(Failed)
     }
 }
+
 /// Where the bytes of a host sink go: a file is made anew, and empty, at the first call.
 #[derive(Drop)]
 enum Target<F: Drop> {
@@ -103,7 +109,10 @@ pub struct HostSink<'r, R: Print + Eprint + Files> {
 }
 
 impl<'r, R: Print + Eprint + Files> HostSink<'r, R> {
-    pub fn standard(rt: &'r R) -> HostSink<'r, R> {
+    /// The standard output. No call of it has failed yet.
+    pub fn standard(rt: &'r R) -> HostSink<'r, R>
+        ensures { result.faults ≡ 0 }
+    {
         HostSink {
             rt,
             target: Target::Output,
@@ -111,7 +120,10 @@ impl<'r, R: Print + Eprint + Files> HostSink<'r, R> {
         }
     }
 
-    pub fn errors(rt: &'r R) -> HostSink<'r, R> {
+    /// The standard error. No call of it has failed yet.
+    pub fn errors(rt: &'r R) -> HostSink<'r, R>
+        ensures { result.faults ≡ 0 }
+    {
         HostSink {
             rt,
             target: Target::Errors,
@@ -119,8 +131,10 @@ impl<'r, R: Print + Eprint + Files> HostSink<'r, R> {
         }
     }
 
-    /// The file of this path. It is made anew, and empty, at the first call.
-    pub fn file(rt: &'r R, path: String) -> HostSink<'r, R> {
+    /// The file of this path. It is made anew, and empty, at the first call; no call of it has failed yet.
+    pub fn file(rt: &'r R, path: String) -> HostSink<'r, R>
+        ensures { result.faults ≡ 0 }
+    {
         HostSink {
             rt,
             target: Target::Named(path),

@@ -33,6 +33,7 @@ impl MemorySource {
         ensures step { source_step result ≡ step }
         ensures fails { source_fails result ≡ fails.items }
         ensures calls { source_calls result ≡ 0 }
+        ensures faults { result.faults ≡ 0 }
     {
         MemorySource {
             inner: FirmSource::new(bytes, step),
@@ -103,6 +104,7 @@ impl MemorySink {
         ensures step { IfOk result (λ sink. sink_step sink ≡ step) }
         ensures fails { IfOk result (λ sink. sink_fails sink ≡ fails.items) }
         ensures calls { IfOk result (λ sink. sink_calls sink ≡ 0) }
+        ensures faults { IfOk result (λ sink. sink.faults ≡ 0) }
     {
         Ok(MemorySink {
             kept: Vec::with_capacity(alloc, room)?,
