@@ -1,4 +1,4 @@
-"""Writes the texts that the other scripts time: one large PLA, and one with large lattices."""
+"""Writes the texts that the other scripts time: a large PLA, one with large lattices, and one drawn at random."""
 
 import random
 import sys
@@ -27,5 +27,18 @@ def parity(path: str) -> None:
         out.write(".e\n")
 
 
+def drawn(path: str) -> None:
+    """256 rows of ten inputs and 64 outputs, each third input digit a don't-care."""
+    draw = random.Random(2)
+    with open(path, "w") as out:
+        out.write(".i 10\n.o 64\n")
+        for _ in range(256):
+            digits = "".join(draw.choice("01-") for _ in range(10))
+            marks = "".join(draw.choice("1000") for _ in range(64))
+            out.write(f"{digits} {marks}\n")
+        out.write(".e\n")
+
+
 large(sys.argv[1] + "/large.pla")
 parity(sys.argv[1] + "/parity.pla")
+drawn(sys.argv[1] + "/drawn.pla")

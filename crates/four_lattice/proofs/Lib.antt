@@ -1,6 +1,7 @@
-pub mod WordsLaws
 pub mod BlocksLaws
 pub mod ReplayedLaws
 pub mod InputsLaws
-pub mod CheckLaws
-pub mod RunLaws
+pub mod VerifiedLaws
+pub mod OutcomeLaws
+pub mod SettledLaws
+pub mod EndsLaws

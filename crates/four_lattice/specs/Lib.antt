@@ -3,5 +3,7 @@ pub mod Words
 pub mod Check
 pub mod Checked
 pub mod Inputs
-pub mod Pairs
+pub mod Lattices
+pub mod Verified
+pub mod Outcome
 pub mod Run

@@ -1,25 +1,29 @@
 -- What a run answers.
-use Rattle.std.specs.Prelude.{◌≡◌, ℕ, ◌<◌, ◌≤◌, ◌⊎◌, List, length, map, codes, string_bytes, IfSome, String, Some, None, Ok}
+use Rattle.std.specs.Prelude.{◌≡◌, ℕ, ◌≤◌, ◌⊎◌, true, false, List, map, codes, string_bytes, String, Some, None, IfSome}
 use Rattle.std.specs.Global.{Global}
 use Rattle.std.specs.declared.option.Option.{Option}
 use Rattle.clause_core.specs.Formula.{Formula}
-use Rattle.clause_core.specs.CnfRead.{cnf_of}
+use Rattle.lrat_replay.specs.declared.line.Line.{Line}
+use Rattle.lrat_replay.specs.Book.{start}
 use Rattle.wire_io.specs.Causes.{Device, Rose}
 use Rattle.wire_io.specs.Told.{Gains, GainsFront, IsSpent}
-use Rattle.pla_reader.specs.Parts.{Parts, Reads}
-use Rattle.report_text.specs.Report.{report_text}
-use Rattle.four_lattice.specs.Check.{IsVerified, IsRefused, IsUnfinished}
-use Rattle.four_lattice.specs.Inputs.{IsRefusedText, EndsPla, EndsCnf, EndsLrat}
-use Rattle.four_lattice.specs.Pairs.{pairs_report}
+use Rattle.pla_reader.specs.Parts.{Parts}
+use Rattle.report_text.specs.Report.{ReportParts, report_text}
+use Rattle.four_lattice.specs.Check.{IsAccepted, IsFirstFault, adds_empty, end_line}
+use Rattle.four_lattice.specs.Ending.{status_of, note_text}
+use Rattle.four_lattice.specs.Inputs.{EndsPla, EndsCnf, EndsLrat, EndsReport}
+use Rattle.four_lattice.specs.Lattices.{IsThere, report_by}
+use Rattle.four_lattice.specs.Outcome.{Outcome, PlaGives, CnfGives, LratGives, ReportGives, realised_text, ComesTo}
+use Rattle.four_lattice.specs.Verified.{IsVerified, IsDenied}
 use Rattle.four_lattice.specs.Words.{job_of}
+use Rattle.four_lattice.specs.declared.lattices.Construction.{Construction}
+use Rattle.four_lattice.specs.declared.lattices.Construction.TheVariants as construction
 use Rattle.four_lattice.specs.declared.words.Job.{Job}
-use Rattle.four_lattice.specs.declared.words.Job.TheVariants.{Pairs, Check}
-use Rattle.lrat_replay.specs.declared.fault.StepFault.{StepFault}
+use Rattle.four_lattice.specs.declared.words.Job.TheVariants.{Pairs, Verify, Check}
 use Rattle.four_lattice.specs.declared.status.Status.{Status}
 use Rattle.four_lattice.specs.declared.status.Status.TheVariants as status
-use Rattle.four_lattice.specs.Ending.{status_of, note_text}
 use Rattle.four_lattice.specs.declared.status.Ending.{Ending}
-use Rattle.four_lattice.specs.declared.status.Ending.TheVariants.{Done, Words, WriteFault, NoMemory, Step, Unfinished}
+use Rattle.four_lattice.specs.declared.status.Ending.TheVariants.{Done, Words, NoSuchOutput, WriteFault, NoMemory, Denied, Step, Unfinished}
 
 -- the job that the words ask for
 abbrev pub job_asked : List (String Global) → Option Job
@@ -34,50 +38,82 @@ pub record Devices : Type 0 where
   pub out : Device
   pub out' : Device
 
--- The bytes are a text within the length, and what the sink gained is the report of its pairs lattices.
-pub record Reports (bytes : List ℕ) (old new : Option (List ℕ)) : Type 0 where
+-- The PLA has the chosen outputs, and the sink gained the report of their lattices, or a front of it.
+pub record Reports (how : Construction) (output : Option ℕ) (d : Devices) (Takes : Option (List ℕ) → Option (List ℕ) → List ℕ → Type 0) : Type 0 where
   pub parts : Parts
-  pub within : length bytes ≤ 4194304
-  pub reads : Reads bytes parts
-  pub gained : Gains old new (report_text (pairs_report parts))
+  pub gives : PlaGives d.pla.told parts
+  pub there : IsThere output parts.outputs
+  pub gained : Takes d.out.told d.out'.told (report_text (report_by how output parts))
 
--- The bytes are a text within the length, and what the sink gained is a front of that report.
-pub record ReportsFront (bytes : List ℕ) (old new : Option (List ℕ)) : Type 0 where
+-- The PLA has not the chosen output.
+pub record HasNoOutput (output : Option ℕ) (d : Devices) : Type 0 where
   pub parts : Parts
-  pub within : length bytes ≤ 4194304
-  pub reads : Reads bytes parts
-  pub gained : GainsFront old new (report_text (pairs_report parts))
+  pub gives : PlaGives d.pla.told parts
+  pub lacks : IsThere output parts.outputs → ⊥
 
--- How `pairs` ends. The side is not called; nothing is written before the PLA is read.
-abbrev pub EndsPairs : Ending → Devices → Type 0
-EndsPairs Done d = IfSome d.pla.told (λ bytes. Reports bytes d.out.told d.out'.told) × IsSpent d.pla'.told × (d.side' ≡ d.side)
-EndsPairs WriteFault d = Rose d.out.faults d.out'.faults × IfSome d.pla.told (λ bytes. ReportsFront bytes d.out.told d.out'.told) × IsSpent d.pla'.told × (d.side' ≡ d.side)
-EndsPairs NoMemory d = ((d.out' ≡ d.out) ⊎ IfSome d.pla.told (λ bytes. ReportsFront bytes d.out.told d.out'.told)) × (d.side' ≡ d.side)
-EndsPairs ending d = EndsPla ending d.pla d.pla' × (d.side' ≡ d.side) × (d.out' ≡ d.out)
-
--- The bytes are a CNF text.
-pub record IsCnf (bytes : List ℕ) : Type 0 where
-  pub formula : Formula
-  pub reads : cnf_of bytes ≡ Ok formula
-
--- Something holds of the formula's text and the side file, where both are told.
-abbrev pub OfBoth : (List ℕ → List ℕ → Type 0) → Devices → Type 0
-OfBoth P d = IfSome d.pla.told (λ cnf. IfSome d.side.told (λ lrat. P cnf lrat))
+-- How a report of lattices ends. The side is not called; nothing is written before the PLA is read.
+abbrev pub EndsLattices : Construction → Option ℕ → Ending → Devices → Type 0
+EndsLattices how output Done d = Reports how output d Gains × IsSpent d.pla'.told × (d.side' ≡ d.side)
+EndsLattices how output WriteFault d = Rose d.out.faults d.out'.faults × Reports how output d GainsFront × IsSpent d.pla'.told × (d.side' ≡ d.side)
+EndsLattices how output NoMemory d = ((d.out' ≡ d.out) ⊎ Reports how output d GainsFront) × (d.side' ≡ d.side)
+EndsLattices how output NoSuchOutput d = HasNoOutput output d × IsSpent d.pla'.told × (d.side' ≡ d.side) × (d.out' ≡ d.out)
+EndsLattices how output ending d = EndsPla ending d.pla d.pla' × (d.side' ≡ d.side) × (d.out' ≡ d.out)
 
 -- Both are read to their ends.
 abbrev pub AreSpent : Devices → Type 0
 AreSpent d = IsSpent d.pla'.told × IsSpent d.side'.told
 
+-- The report verifies against the PLA, and the sink gained how many blocks it has, or a front of that.
+pub record Realised (d : Devices) (Takes : Option (List ℕ) → Option (List ℕ) → List ℕ → Type 0) : Type 0 where
+  pub parts : Parts
+  pub report : ReportParts
+  pub gives : PlaGives d.pla.told parts
+  pub spells : ReportGives d.side.told report
+  pub verified : IsVerified parts report
+  pub gained : Takes d.out.told d.out'.told (realised_text report)
+
+-- The report is refused so against the PLA.
+pub record NotRealised (d : Devices) (Refuses : Parts → ReportParts → Type 0) : Type 0 where
+  pub parts : Parts
+  pub report : ReportParts
+  pub gives : PlaGives d.pla.told parts
+  pub spells : ReportGives d.side.told report
+  pub refused : Refuses parts report
+
+-- How `verify` ends. The side is called only once the PLA is read, and nothing is written before the report is tested.
+abbrev pub EndsVerify : Ending → Devices → Type 0
+EndsVerify Done d = Realised d Gains × AreSpent d
+EndsVerify WriteFault d = Rose d.out.faults d.out'.faults × Realised d GainsFront × AreSpent d
+EndsVerify NoMemory d = (d.out' ≡ d.out) ⊎ Realised d GainsFront
+EndsVerify (Denied refusal) d = NotRealised d (λ parts report. IsDenied parts report refusal) × AreSpent d × (d.out' ≡ d.out)
+EndsVerify ending d =
+    (EndsPla ending d.pla d.pla' × (d.side' ≡ d.side) × (d.out' ≡ d.out))
+    ⊎ (((parts : Parts) × PlaGives d.pla.told parts) × IsSpent d.pla'.told × EndsReport ending d.side d.side' × (d.out' ≡ d.out))
+
+-- What the lines do after the formula.
+pub record Replayed (d : Devices) (Holds : Formula → List Line → Type 0) : Type 0 where
+  pub formula : Formula
+  pub lines : List Line
+  pub gives : CnfGives d.pla.told formula
+  pub says : LratGives d.side.told lines
+  pub holds : Holds formula lines
+
+-- The lines refute the formula, and the sink gained that, or a front of it.
+abbrev pub Verifies : Devices → (Option (List ℕ) → Option (List ℕ) → List ℕ → Type 0) → Type 0
+Verifies d Takes = Replayed d (λ formula lines. IsAccepted formula lines × (adds_empty formula lines ≡ true)) × Takes d.out.told d.out'.told (codes "verified\n")
+
 -- How `check` ends. The side is called only once the formula is read, and nothing is written before the lines are replayed.
 abbrev pub EndsCheck : Ending → Devices → Type 0
-EndsCheck Done d = OfBoth IsVerified d × Gains d.out.told d.out'.told (codes "verified\n") × AreSpent d
-EndsCheck WriteFault d = Rose d.out.faults d.out'.faults × OfBoth IsVerified d × GainsFront d.out.told d.out'.told (codes "verified\n") × AreSpent d
-EndsCheck NoMemory d = (d.out' ≡ d.out) ⊎ (OfBoth IsVerified d × GainsFront d.out.told d.out'.told (codes "verified\n"))
-EndsCheck (Step fault line) d = OfBoth (λ cnf lrat. IsRefused cnf lrat fault line) d × AreSpent d × (d.out' ≡ d.out)
-EndsCheck (Unfinished line) d = OfBoth (λ cnf lrat. IsUnfinished cnf lrat line) d × AreSpent d × (d.out' ≡ d.out)
+EndsCheck Done d = Verifies d Gains × AreSpent d
+EndsCheck WriteFault d = Rose d.out.faults d.out'.faults × Verifies d GainsFront × AreSpent d
+EndsCheck NoMemory d = (d.out' ≡ d.out) ⊎ Verifies d GainsFront
+EndsCheck (Step fault line) d = Replayed d (λ formula lines. IsFirstFault (start formula) lines fault line) × AreSpent d × (d.out' ≡ d.out)
+EndsCheck (Unfinished line) d =
+    Replayed d (λ formula lines. IsAccepted formula lines × (adds_empty formula lines ≡ false)) × IfSome d.side.told (λ bytes. line ≡ end_line bytes)
+    × AreSpent d × (d.out' ≡ d.out)
 EndsCheck ending d =
     (EndsCnf ending d.pla d.pla' × (d.side' ≡ d.side) × (d.out' ≡ d.out))
-    ⊎ (IfSome d.pla.told IsCnf × IsSpent d.pla'.told × EndsLrat ending d.side d.side' × (d.out' ≡ d.out))
+    ⊎ (((formula : Formula) × CnfGives d.pla.told formula) × IsSpent d.pla'.told × EndsLrat ending d.side d.side' × (d.out' ≡ d.out))
 
 -- No input is called and nothing is written.
 abbrev pub IsUntouched : Devices → Type 0
@@ -86,7 +122,8 @@ IsUntouched d = (d.pla' ≡ d.pla) × (d.side' ≡ d.side) × (d.out' ≡ d.out)
 -- How a run ends, by the job that the words ask for.
 abbrev pub EndsSo : Option Job → Ending → Devices → Type 0
 EndsSo None ending d = (ending ≡ Words) × IsUntouched d
-EndsSo (Some Pairs) ending d = EndsPairs ending d
+EndsSo (Some (Pairs output)) ending d = EndsLattices construction.Pairs output ending d
+EndsSo (Some Verify) ending d = EndsVerify ending d
 EndsSo (Some Check) ending d = EndsCheck ending d
 
 -- The line of notes was taken, or a front of it where the faults of notes rose.
@@ -109,33 +146,21 @@ pub record Answers (job : Option Job) (result : Status) (d : Devices) (notes not
   pub later : AreLater d
   pub notes_later : notes.faults ≤ notes'.faults
 
--- No count of faults rose.
-pub record IsQuiet (d : Devices) : Type 0 where
-  pub pla : Rose d.pla.faults d.pla'.faults → ⊥
-  pub side : Rose d.side.faults d.side'.faults → ⊥
-  pub out : Rose d.out.faults d.out'.faults → ⊥
+-- The inputs of a job are told.
+abbrev pub AreTold : Job → Devices → Type 0
+AreTold (Pairs output) d = (pla : List ℕ) × (d.pla.told ≡ Some pla)
+AreTold job d = (pla : List ℕ) × (side : List ℕ) × (d.pla.told ≡ Some pla) × (d.side.told ≡ Some side)
 
--- `pairs` of a text within the length, and no fault: the whole report is written with status 0, or memory was wanting.
-abbrev pub IsCompletePairs : Option Job → Status → Devices → Type 0
-IsCompletePairs job result d =
-    job ≡ Some Pairs → (bytes : List ℕ) (parts : Parts) → d.pla.told ≡ Some bytes → length bytes ≤ 4194304 → Reads bytes parts → IsQuiet d
-    → (result ≡ status.NoMemory) ⊎ ((result ≡ status.Done) × Gains d.out.told d.out'.told (report_text (pairs_report parts)))
+-- Memory was wanting; an input failed; the output failed, where there was something to write; or the run ended as it was to,
+-- with its status, its text and its line of notes.
+abbrev pub IsSettled : Outcome → Status → Devices → Device → Device → Type 0
+IsSettled outcome result d notes notes' =
+    (result ≡ status.NoMemory)
+    ⊎ (((result ≡ status.ReadFault) × (Rose d.pla.faults d.pla'.faults ⊎ Rose d.side.faults d.side'.faults))
+    ⊎ (((result ≡ status.WriteFault) × (outcome.ending ≡ Done) × Rose d.out.faults d.out'.faults)
+    ⊎ ((result ≡ status_of outcome.ending) × Gains d.out.told d.out'.told outcome.text × IsNoted notes notes' (note_text outcome.ending))))
 
--- `pairs` of a text that is refused: so says the status, or the source failed, or memory was wanting.
-abbrev pub IsRefusedPairs : Option Job → Status → Devices → Type 0
-IsRefusedPairs job result d =
-    job ≡ Some Pairs → (bytes : List ℕ) → d.pla.told ≡ Some bytes → (4194304 < length bytes) ⊎ IsRefusedText bytes
-    → (result ≡ status.NoMemory) ⊎ (result ≡ status.Input) ⊎ ((result ≡ status.ReadFault) × Rose d.pla.faults d.pla'.faults)
-
--- `check` of lines that refute the formula, within the lengths, and no fault: so is written with status 0, or memory was wanting.
-abbrev pub IsCompleteCheck : Option Job → Status → Devices → Type 0
-IsCompleteCheck job result d =
-    job ≡ Some Check → (cnf lrat : List ℕ) → d.pla.told ≡ Some cnf → d.side.told ≡ Some lrat → length lrat ≤ 536870912 → IsVerified cnf lrat → IsQuiet d
-    → (result ≡ status.NoMemory) ⊎ ((result ≡ status.Done) × Gains d.out.told d.out'.told (codes "verified\n"))
-
--- `check` of lines of which one is refused, or none adds the empty clause, within the lengths, and no fault: so says the status, or memory was wanting.
-abbrev pub IsUnconfirmedCheck : Option Job → Status → Devices → Type 0
-IsUnconfirmedCheck job result d =
-    job ≡ Some Check → (cnf lrat : List ℕ) → d.pla.told ≡ Some cnf → d.side.told ≡ Some lrat → length lrat ≤ 536870912
-    → ((fault : StepFault) × (line : ℕ) × IsRefused cnf lrat fault line) ⊎ ((line : ℕ) × IsUnfinished cnf lrat line) → IsQuiet d
-    → (result ≡ status.NoMemory) ⊎ (result ≡ status.Unconfirmed)
+-- Whatever the told texts of the job come to, that is how the run ends, but for faults and want of memory.
+abbrev pub Settles : Option Job → Status → Devices → Device → Device → Type 0
+Settles asked result d notes notes' =
+    (job : Job) → asked ≡ Some job → AreTold job d → (outcome : Outcome) → ComesTo job d.pla.told d.side.told outcome → IsSettled outcome result d notes notes'

@@ -1,13 +1,14 @@
 //! The command `pairs`.
-ghost use Rattle.std.specs.Prelude.{◌≡◌, ℕ, ◌≤◌, List, length, map, OnOk, IfErr};
+ghost use Rattle.std.specs.Prelude.{◌≡◌, ℕ, ◌+◌, ◌<◌, ◌≤◌, List, length, map, IfOk, OnOk, IfErr, IsTrue, ◌↔◌, MatchOption};
 ghost use Rattle.wire_io.specs.Told.{Gains, GainsFront};
 ghost use Rattle.pla_reader.specs.Names.{bytes_of};
 ghost use Rattle.pla_reader.specs.Parts.{parts_of, IsPla};
 ghost use Rattle.report_text.specs.Report.{blocks_text, report_text};
-ghost use Rattle.four_lattice.specs.Pairs.{pairs_blocks, pairs_report, IsWriteCause};
-ghost use Rattle.four_lattice.specs.declared.pairs.WorkFault.TheVariants.{Write, NoMemory};
+ghost use Rattle.four_lattice.specs.Lattices.{made_by, blocks_by, report_by, IsThere, IsWriteCause};
+ghost use Rattle.four_lattice.specs.declared.lattices.WorkFault.TheVariants.{Write, NoMemory};
 
 use cube_core::spec::Spec;
+use lattice_grid::grid::Grid;
 use lattice_grid::pairs::pairs;
 use pla_reader::name::Name;
 use pla_reader::pla::Pla;
@@ -16,6 +17,24 @@ use report_text::write::{write_block, write_end, write_head};
 use std::alloc::Global;
 use wire_io::fault::{Failed, NoMemory as OutOfMemory};
 use wire_io::sink::Sink;
+
+/// How the lattice of an output is made.
+#[derive(Clone, Copy, Debug, PartialEq, Eq)]
+pub enum Construction {
+    /// A column for each on assignment, a row for each off assignment.
+    Pairs,
+}
+
+impl Construction {
+    /// The lattice of a function.
+    fn make(self, alloc: Global, spec: &Spec) -> Result<Grid, OutOfMemory>
+        ensures { IfOk result (λ grid. grid ≡ made_by self spec.now) }
+    {
+        match self {
+            Construction::Pairs => pairs(alloc, spec),
+        }
+    }
+}
 
 /// Why a command's work stopped.
 #[derive(Clone, Copy, Debug, PartialEq, Eq)]
@@ -40,41 +59,86 @@ impl From<OutOfMemory> for WorkFault {
     }
 }
 
-/// Writes the block of each output.
+/// Whether a PLA has the chosen output.
+pub fn has_output(pla: &Pla, output: Option<u32>) -> bool
+    ensures { IsTrue result ↔ IsThere output pla.now.outputs }
+{
+    match output {
+        None => true,
+        Some(output) => output < u32::from(pla.outputs),
+    }
+}
+
+/// Writes the block of each output from this one on.
 fn write_blocks<K: Sink>(
     alloc: Global,
     sink: &mut K,
+    how: Construction,
+    first: u32,
     names: &[Name],
     specs: &[Spec],
 ) -> Result<(), WorkFault>
     requires same { length names.now ≡ length specs.now }
-    requires few { length specs.now ≤ 64 }
-    ensures ok { OnOk result (Gains (K.got sink.old) (K.got sink.new) (blocks_text (pairs_blocks 0 (map bytes_of names.now) specs.now))) }
-    ensures front { GainsFront (K.got sink.old) (K.got sink.new) (blocks_text (pairs_blocks 0 (map bytes_of names.now) specs.now)) }
+    requires few { first + length specs.now ≤ 64 }
+    ensures ok { OnOk result (Gains (K.got sink.old) (K.got sink.new) (blocks_text (blocks_by how first (map bytes_of names.now) specs.now))) }
+    ensures front { GainsFront (K.got sink.old) (K.got sink.new) (blocks_text (blocks_by how first (map bytes_of names.now) specs.now)) }
     ensures later { K.faults sink.old ≤ K.faults sink.new }
     ensures cause { IfErr result (IsWriteCause (K.faults sink.old) (K.faults sink.new)) }
 {
-    for (output, spec) in specs.iter().enumerate() {
+    for (place, spec) in specs.iter().enumerate() {
         let block = Block {
-            output: output as u32,
-            name: names[output].copy(alloc)?,
-            answer: Answer::Found(pairs(alloc, spec)?),
+            output: first + place as u32,
+            name: names[place].copy(alloc)?,
+            answer: Answer::Found(how.make(alloc, spec)?),
         };
         write_block(sink, &block)?;
     }
     Ok(())
 }
 
-/// Writes the report of the pairs lattices.
-pub fn write_pairs<K: Sink>(alloc: Global, sink: &mut K, pla: &Pla) -> Result<(), WorkFault>
-    requires { IsPla (parts_of pla.now) }
-    ensures ok { OnOk result (Gains (K.got sink.old) (K.got sink.new) (report_text (pairs_report (parts_of pla.now)))) }
-    ensures front { GainsFront (K.got sink.old) (K.got sink.new) (report_text (pairs_report (parts_of pla.now))) }
+/// Writes the blocks of the chosen outputs.
+fn write_chosen<K: Sink>(
+    alloc: Global,
+    sink: &mut K,
+    how: Construction,
+    output: Option<u32>,
+    pla: &Pla,
+) -> Result<(), WorkFault>
+    requires whole { IsPla (parts_of pla.now) }
+    requires there { IsThere output pla.now.outputs }
+    ensures ok { OnOk result (Gains (K.got sink.old) (K.got sink.new) (blocks_text (report_by how output (parts_of pla.now)).blocks)) }
+    ensures front { GainsFront (K.got sink.old) (K.got sink.new) (blocks_text (report_by how output (parts_of pla.now)).blocks) }
+    ensures later { K.faults sink.old ≤ K.faults sink.new }
+    ensures cause { IfErr result (IsWriteCause (K.faults sink.old) (K.faults sink.new)) }
+{
+    let names = pla.output_names.as_slice();
+    match output {
+        None => write_blocks(alloc, sink, how, 0, names, &pla.specs),
+        Some(output) => {
+            let place = output as usize;
+            let (names, specs) = (&names[place..place + 1], &pla.specs[place..place + 1]);
+            write_blocks(alloc, sink, how, output, names, specs)
+        }
+    }
+}
+
+/// Writes the report of the lattices of the chosen outputs.
+pub fn write_lattices<K: Sink>(
+    alloc: Global,
+    sink: &mut K,
+    how: Construction,
+    output: Option<u32>,
+    pla: &Pla,
+) -> Result<(), WorkFault>
+    requires whole { IsPla (parts_of pla.now) }
+    requires there { IsThere output pla.now.outputs }
+    ensures ok { OnOk result (Gains (K.got sink.old) (K.got sink.new) (report_text (report_by how output (parts_of pla.now)))) }
+    ensures front { GainsFront (K.got sink.old) (K.got sink.new) (report_text (report_by how output (parts_of pla.now))) }
     ensures later { K.faults sink.old ≤ K.faults sink.new }
     ensures cause { IfErr result (IsWriteCause (K.faults sink.old) (K.faults sink.new)) }
 {
     write_head(sink, &pla.input_names)?;
-    write_blocks(alloc, sink, pla.output_names.as_slice(), &pla.specs)?;
+    write_chosen(alloc, sink, how, output, pla)?;
     write_end(sink)?;
     Ok(())
 }

@@ -3,7 +3,8 @@
 
 mod check;
 mod inputs;
-mod pairs;
+mod lattices;
 pub mod run;
 pub mod status;
+pub mod verify;
 mod words;

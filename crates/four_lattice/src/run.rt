@@ -1,22 +1,40 @@
 //! The top call.
-ghost use Rattle.std.specs.Prelude.{◌≡◌, ℕ, ◌≤◌, ◌⊎◌, ◌↔◌, true, codes, OnOk, IfErr, Some, None};
+ghost use Rattle.std.specs.Prelude.{◌≡◌, ◌≢◌, ℕ, ◌≤◌, ◌+◌, ◌++◌, ◌⊎◌, ◌↔◌, true, codes, decimal, length, IfOk, OnOk, IfErr, Some, None};
+ghost use Rattle.wire_io.specs.Causes.{HasCause};
+ghost use Rattle.wire_io.specs.Told.{Gains, GainsFront};
 ghost use Rattle.four_lattice.specs.Check.{EndsLines, IsAccepted, adds_empty};
-ghost use Rattle.four_lattice.specs.Run.{job_asked, EndsPairs, EndsCheck, EndsSo, Answers, IsCompletePairs, IsCompleteCheck, IsRefusedPairs, IsUnconfirmedCheck};
+ghost use Rattle.four_lattice.specs.Outcome.{Outcome, ComesTo};
+ghost use Rattle.pla_reader.specs.Parts.{parts_of, IsPla};
+ghost use Rattle.report_text.specs.Report.{parts_of_report};
+ghost use Rattle.four_lattice.specs.Verified.{IsVerified, EndsReportTest};
+ghost use Rattle.four_lattice.specs.Run.{job_asked, EndsLattices, EndsVerify, EndsCheck, EndsSo, Answers, Settles};
 
 use crate::check::{Replayed, replay_lines};
-use crate::inputs::{Proof, input_cnf, input_pla, input_proof};
-use crate::pairs::{WorkFault, write_pairs};
+use crate::inputs::{Proof, input_cnf, input_pla, input_proof, input_report};
+use crate::lattices::{Construction, WorkFault, has_output, write_lattices};
 use crate::status::{Ending, Status, write_note};
+use crate::verify::{VerifyRefusal, verify};
 use crate::words::{Job, job_asked_for};
 use clause_core::formula::Formula;
+use itoa::Buffer;
 use lrat_replay::replay::Replay;
+use pla_reader::pla::Pla;
+use report_text::answer::Report;
 use std::alloc::Global;
-use wire_io::sink::{Sink, write_all};
+use wire_io::fault::Failed;
+use wire_io::sink::{Sink, write_all, write_pieces};
 use wire_io::source::Source;
 
-/// How the command `pairs` ends.
-fn end_of_pairs<S: Source, K: Sink>(alloc: Global, pla: &mut S, side: &mut S, out: &mut K) -> Ending
-    ensures ends { EndsPairs result record {
+/// How a report of the lattices of the chosen outputs ends.
+fn end_of_lattices<S: Source, K: Sink>(
+    alloc: Global,
+    how: Construction,
+    output: Option<u32>,
+    pla: &mut S,
+    side: &mut S,
+    out: &mut K,
+) -> Ending
+    ensures ends { EndsLattices how output result record {
       pla = record { told = S.left pla.old; faults = S.faults pla.old };
       pla' = record { told = S.left pla.new; faults = S.faults pla.new };
       side = record { told = S.left side.old; faults = S.faults side.old };
@@ -33,10 +51,84 @@ fn end_of_pairs<S: Source, K: Sink>(alloc: Global, pla: &mut S, side: &mut S, ou
         Ok(text) => text,
         Err(ending) => return ending,
     };
-    match write_pairs(alloc, out, &text) {
+    if !has_output(&text, output) {
+        return Ending::NoSuchOutput;
+    }
+    match write_lattices(alloc, out, how, output, &text) {
         Ok(()) => Ending::Done,
         Err(WorkFault::Write) => Ending::WriteFault,
         Err(WorkFault::NoMemory) => Ending::NoMemory,
+    }
+}
+
+/// How a run ends whose report does not verify.
+fn ending_of_denial(refusal: VerifyRefusal) -> Ending
+    ensures refused { refusal ≢ VerifyRefusal.NoMemory → result ≡ Ending.Denied refusal }
+    ensures wanting { refusal ≡ VerifyRefusal.NoMemory → result ≡ Ending.NoMemory }
+{
+    match refusal {
+        VerifyRefusal::NoMemory => Ending::NoMemory,
+        _ => Ending::Denied(refusal),
+    }
+}
+
+/// Tests a report against a PLA: the number of its blocks where it verifies, or else how the run ends.
+fn confirm(alloc: Global, text: &Pla, report: &Report) -> Result<u32, Ending>
+    requires { IsPla (parts_of text.now) }
+    ensures many { IfOk result (λ many. many ≡ length report.now.blocks.items) }
+    ensures verified { OnOk result (IsVerified (parts_of text.now) (parts_of_report report.now)) }
+    ensures ends { IfErr result (λ ending. EndsReportTest ending (parts_of text.now) (parts_of_report report.now)) }
+{
+    match verify(alloc, text, report) {
+        Ok(many) => Ok(many),
+        Err(refusal) => Err(ending_of_denial(refusal)),
+    }
+}
+
+/// Writes how many lattices realise their outputs.
+fn write_realised<K: Sink>(out: &mut K, many: u32) -> Result<(), Failed>
+    ensures ok { OnOk result (Gains (K.got out.old) (K.got out.new) (codes "realised " ++ (decimal many ++ codes "\n"))) }
+    ensures front { GainsFront (K.got out.old) (K.got out.new) (codes "realised " ++ (decimal many ++ codes "\n")) }
+    ensures cause { HasCause (K.faults out.old) (K.faults out.new) result }
+{
+    let mut digits = Buffer::new();
+    write_pieces(out, &[b"realised ", digits.format(many).as_bytes(), b"\n"])
+}
+
+/// How the command `verify` ends.
+fn end_of_verify<S: Source, K: Sink>(
+    alloc: Global,
+    pla: &mut S,
+    side: &mut S,
+    out: &mut K,
+) -> Ending
+    ensures ends { EndsVerify result record {
+      pla = record { told = S.left pla.old; faults = S.faults pla.old };
+      pla' = record { told = S.left pla.new; faults = S.faults pla.new };
+      side = record { told = S.left side.old; faults = S.faults side.old };
+      side' = record { told = S.left side.new; faults = S.faults side.new };
+      out = record { told = K.got out.old; faults = K.faults out.old };
+      out' = record { told = K.got out.new; faults = K.faults out.new };
+    } }
+    ensures pla_later { S.faults pla.old ≤ S.faults pla.new }
+    ensures side_later { S.faults side.old ≤ S.faults side.new }
+    ensures out_later { K.faults out.old ≤ K.faults out.new }
+{
+    let text = match input_pla(alloc, pla) {
+        Ok(text) => text,
+        Err(ending) => return ending,
+    };
+    let report = match input_report(alloc, side) {
+        Ok(report) => report,
+        Err(ending) => return ending,
+    };
+    let many = match confirm(alloc, &text, &report) {
+        Ok(many) => many,
+        Err(ending) => return ending,
+    };
+    match write_realised(out, many) {
+        Ok(()) => Ending::Done,
+        Err(_) => Ending::WriteFault,
     }
 }
 
@@ -114,7 +206,10 @@ fn end_of_job<S: Source, K: Sink>(
 {
     match job {
         None => Ending::Words,
-        Some(Job::Pairs) => end_of_pairs(alloc, pla, side, out),
+        Some(Job::Pairs { output }) => {
+            end_of_lattices(alloc, Construction::Pairs, output, pla, side, out)
+        }
+        Some(Job::Verify) => end_of_verify(alloc, pla, side, out),
         Some(Job::Check) => end_of_check(alloc, pla, side, out),
     }
 }
@@ -139,7 +234,7 @@ fn answer<S: Source, K: Sink>(
     } (record { told = K.got notes.old; faults = K.faults notes.old }) (record { told = K.got notes.new; faults = K.faults notes.new }) }
 {
     let ending = end_of_job(alloc, job_asked_for(words), pla, side, out);
-    let _ = write_note(notes, ending);
+    let _ = write_note(notes, &ending);
     ending.status()
 }
 
@@ -164,40 +259,16 @@ pub fn run<S: Source, K: Sink>(
       out = record { told = K.got out.old; faults = K.faults out.old };
       out' = record { told = K.got out.new; faults = K.faults out.new };
     } (record { told = K.got notes.old; faults = K.faults notes.old }) (record { told = K.got notes.new; faults = K.faults notes.new }) }
-    // Where nothing fails and memory suffices, what is asked for is written whole.
-    ensures complete_pairs { IsCompletePairs (job_asked words.now) result record {
+    // Whatever the told texts of the command come to, that is how the run ends, with its status, its text and its note,
+    // but for faults and want of memory.
+    ensures settled { Settles (job_asked words.now) result record {
       pla = record { told = S.left pla.old; faults = S.faults pla.old };
       pla' = record { told = S.left pla.new; faults = S.faults pla.new };
       side = record { told = S.left side.old; faults = S.faults side.old };
       side' = record { told = S.left side.new; faults = S.faults side.new };
       out = record { told = K.got out.old; faults = K.faults out.old };
       out' = record { told = K.got out.new; faults = K.faults out.new };
-    } }
-    ensures complete_check { IsCompleteCheck (job_asked words.now) result record {
-      pla = record { told = S.left pla.old; faults = S.faults pla.old };
-      pla' = record { told = S.left pla.new; faults = S.faults pla.new };
-      side = record { told = S.left side.old; faults = S.faults side.old };
-      side' = record { told = S.left side.new; faults = S.faults side.new };
-      out = record { told = K.got out.old; faults = K.faults out.old };
-      out' = record { told = K.got out.new; faults = K.faults out.new };
-    } }
-    // What is refused gives the status that says so, but for faults and want of memory.
-    ensures refused_pairs { IsRefusedPairs (job_asked words.now) result record {
-      pla = record { told = S.left pla.old; faults = S.faults pla.old };
-      pla' = record { told = S.left pla.new; faults = S.faults pla.new };
-      side = record { told = S.left side.old; faults = S.faults side.old };
-      side' = record { told = S.left side.new; faults = S.faults side.new };
-      out = record { told = K.got out.old; faults = K.faults out.old };
-      out' = record { told = K.got out.new; faults = K.faults out.new };
-    } }
-    ensures unconfirmed_check { IsUnconfirmedCheck (job_asked words.now) result record {
-      pla = record { told = S.left pla.old; faults = S.faults pla.old };
-      pla' = record { told = S.left pla.new; faults = S.faults pla.new };
-      side = record { told = S.left side.old; faults = S.faults side.old };
-      side' = record { told = S.left side.new; faults = S.faults side.new };
-      out = record { told = K.got out.old; faults = K.faults out.old };
-      out' = record { told = K.got out.new; faults = K.faults out.new };
-    } }
+    } (record { told = K.got notes.old; faults = K.faults notes.old }) (record { told = K.got notes.new; faults = K.faults notes.new }) }
 {
     answer(alloc, words, pla, side, out, notes)
 }

@@ -2,13 +2,16 @@
 ghost use Rattle.std.specs.Prelude.{◌≡◌, ℕ, ◌≤◌, OnOk};
 ghost use Rattle.wire_io.specs.Causes.{HasCause};
 ghost use Rattle.wire_io.specs.Told.{Gains, GainsFront};
-ghost use Rattle.four_lattice.specs.Ending.{status_of, number_of, lead_of, name_of, line_of, pla_name, cnf_name, step_name, note_text};
+ghost use Rattle.four_lattice.specs.Ending.{status_of, number_of, lead_of, name_of, spot_of, said, pla_name, pla_spot, cnf_name, report_name, verify_name, verify_spot, step_name, note_text};
 
+use crate::verify::VerifyRefusal;
 use clause_core::refusal::CnfRefusal;
+use cube_core::assign::Assign;
 use itoa::Buffer;
 use lrat_replay::fault::StepFault;
 use lrat_replay::refusal::LratRefusal;
 use pla_reader::pla::PlaRefusal;
+use report_text::report::ReportRefusal;
 use wire_io::fault::Failed;
 use wire_io::sink::{Sink, write_pieces};
 
@@ -51,6 +54,8 @@ pub enum Ending {
     Words,
     /// The PLA is refused.
     Pla(PlaRefusal),
+    /// The PLA has not the chosen output.
+    NoSuchOutput,
     /// The CNF is refused.
     Cnf(CnfRefusal),
     ReadFault,
@@ -58,12 +63,65 @@ pub enum Ending {
     NoMemory,
     /// The side file passes its limit.
     SideTooLong,
+    /// The report in the side file is refused.
+    Report(ReportRefusal),
     /// The lines of the side file are refused.
     Lrat(LratRefusal),
+    /// The report does not verify.
+    Denied(VerifyRefusal),
     /// Replay refuses the line.
     Step { fault: StepFault, line: u32 },
     /// The lines end before the empty clause.
     Unfinished { line: u32 },
+}
+
+/// Where what is refused lies.
+#[derive(Clone, Copy, Debug, PartialEq, Eq)]
+pub enum Spot {
+    /// It has no place.
+    Nowhere,
+    /// On a line.
+    At { line: u32 },
+    /// On a line, and at an assignment.
+    AssignmentAt { line: u32, assign: Assign },
+    /// At an output and an assignment.
+    AssignmentOf { output: u8, assign: Assign },
+}
+
+/// Where a refusal of a PLA lies.
+fn spot_of_pla(refusal: PlaRefusal) -> Spot
+    ensures { result ≡ pla_spot refusal }
+{
+    match refusal {
+        PlaRefusal::BadByte { line }
+        | PlaRefusal::UnknownWord { line }
+        | PlaRefusal::Unsupported { line }
+        | PlaRefusal::Repeated { line }
+        | PlaRefusal::BadNumber { line }
+        | PlaRefusal::Late { line }
+        | PlaRefusal::Missing { line }
+        | PlaRefusal::Inputs { line }
+        | PlaRefusal::Outputs { line }
+        | PlaRefusal::RowLength { line }
+        | PlaRefusal::BadDigit { line }
+        | PlaRefusal::Names { line }
+        | PlaRefusal::TooManyRows { line } => Spot::At { line },
+        PlaRefusal::Conflict { output, assign } => Spot::AssignmentOf { output, assign },
+        PlaRefusal::TooLong | PlaRefusal::NoMemory => Spot::Nowhere,
+    }
+}
+
+/// Where a report does not verify.
+fn spot_of_denial(refusal: VerifyRefusal) -> Spot
+    ensures { result ≡ verify_spot refusal }
+{
+    match refusal {
+        VerifyRefusal::Inputs { line }
+        | VerifyRefusal::Output { line }
+        | VerifyRefusal::Literal { line } => Spot::At { line },
+        VerifyRefusal::Wrong { line, assign } => Spot::AssignmentAt { line, assign },
+        VerifyRefusal::NoMemory => Spot::Nowhere,
+    }
 }
 
 /// The name of a refusal of a PLA.
@@ -72,7 +130,20 @@ fn name_of_pla(refusal: PlaRefusal) -> &'static [u8]
 {
     match refusal {
         PlaRefusal::TooLong => b"TooLong",
-        PlaRefusal::NotPlain => b"NotPlain",
+        PlaRefusal::BadByte { .. } => b"BadByte",
+        PlaRefusal::UnknownWord { .. } => b"UnknownWord",
+        PlaRefusal::Unsupported { .. } => b"Unsupported",
+        PlaRefusal::Repeated { .. } => b"Repeated",
+        PlaRefusal::BadNumber { .. } => b"BadNumber",
+        PlaRefusal::Late { .. } => b"Late",
+        PlaRefusal::Missing { .. } => b"Missing",
+        PlaRefusal::Inputs { .. } => b"Inputs",
+        PlaRefusal::Outputs { .. } => b"Outputs",
+        PlaRefusal::RowLength { .. } => b"RowLength",
+        PlaRefusal::BadDigit { .. } => b"BadDigit",
+        PlaRefusal::Names { .. } => b"Names",
+        PlaRefusal::TooManyRows { .. } => b"TooManyRows",
+        PlaRefusal::Conflict { .. } => b"Conflict",
         PlaRefusal::NoMemory => b"NoMemory",
     }
 }
@@ -89,6 +160,34 @@ fn name_of_cnf(refusal: CnfRefusal) -> &'static [u8]
         CnfRefusal::TooLong => b"TooLong",
         CnfRefusal::TooLarge { .. } => b"TooLarge",
         CnfRefusal::NoMemory => b"NoMemory",
+    }
+}
+
+/// The name of a refusal of a report.
+fn name_of_report(refusal: ReportRefusal) -> &'static [u8]
+    ensures { result.now ≡ report_name refusal }
+{
+    match refusal {
+        ReportRefusal::Header { .. } => b"Header",
+        ReportRefusal::Inputs { .. } => b"Inputs",
+        ReportRefusal::Block { .. } => b"Block",
+        ReportRefusal::Grid { .. } => b"Grid",
+        ReportRefusal::Trailing { .. } => b"Trailing",
+        ReportRefusal::Truncated { .. } => b"Truncated",
+        ReportRefusal::NoMemory => b"NoMemory",
+    }
+}
+
+/// The name of why a report does not verify.
+fn name_of_denial(refusal: VerifyRefusal) -> &'static [u8]
+    ensures { result.now ≡ verify_name refusal }
+{
+    match refusal {
+        VerifyRefusal::Inputs { .. } => b"Inputs",
+        VerifyRefusal::Output { .. } => b"Output",
+        VerifyRefusal::Literal { .. } => b"Literal",
+        VerifyRefusal::Wrong { .. } => b"Wrong",
+        VerifyRefusal::NoMemory => b"NoMemory",
     }
 }
 
@@ -111,91 +210,144 @@ fn name_of_step(fault: StepFault) -> &'static [u8]
 
 impl Ending {
     /// The status of an ending.
-    pub fn status(self) -> Status
-        ensures { result ≡ status_of self }
+    pub fn status(&self) -> Status
+        ensures { result ≡ status_of self.now }
     {
         match self {
             Ending::Done => Status::Done,
             Ending::Words => Status::Words,
-            Ending::Pla(_) | Ending::Cnf(_) => Status::Input,
+            Ending::Pla(_) | Ending::NoSuchOutput | Ending::Cnf(_) => Status::Input,
             Ending::ReadFault => Status::ReadFault,
             Ending::WriteFault => Status::WriteFault,
             Ending::NoMemory => Status::NoMemory,
-            Ending::SideTooLong | Ending::Lrat(_) => Status::Side,
-            Ending::Step { .. } | Ending::Unfinished { .. } => Status::Unconfirmed,
+            Ending::SideTooLong | Ending::Report(_) | Ending::Lrat(_) => Status::Side,
+            Ending::Denied(_) | Ending::Step { .. } | Ending::Unfinished { .. } => {
+                Status::Unconfirmed
+            }
         }
     }
 
     /// What the line of notes begins with.
-    fn lead(self) -> &'static [u8]
-        ensures { result.now ≡ lead_of self }
+    fn lead(&self) -> &'static [u8]
+        ensures { result.now ≡ lead_of self.now }
     {
         match self {
             Ending::Done => b"",
             Ending::Words => b"words refused",
-            Ending::Pla(_) | Ending::Cnf(_) => b"input refused: ",
+            Ending::Pla(_) | Ending::NoSuchOutput | Ending::Cnf(_) => b"input refused: ",
             Ending::ReadFault => b"read fault",
             Ending::WriteFault => b"write fault",
             Ending::NoMemory => b"want of memory",
-            Ending::SideTooLong | Ending::Lrat(_) => b"side refused: ",
-            Ending::Step { .. } | Ending::Unfinished { .. } => b"not confirmed: ",
+            Ending::SideTooLong | Ending::Report(_) | Ending::Lrat(_) => b"side refused: ",
+            Ending::Denied(_) | Ending::Step { .. } | Ending::Unfinished { .. } => {
+                b"not confirmed: "
+            }
         }
     }
 
     /// The name of what is refused.
-    fn name(self) -> &'static [u8]
-        ensures { result.now ≡ name_of self }
+    fn name(&self) -> &'static [u8]
+        ensures { result.now ≡ name_of self.now }
     {
         match self {
-            Ending::Pla(refusal) => name_of_pla(refusal),
-            Ending::Cnf(refusal) => name_of_cnf(refusal),
+            Ending::Pla(refusal) => name_of_pla(*refusal),
+            Ending::NoSuchOutput => b"NoSuchOutput",
+            Ending::Cnf(refusal) => name_of_cnf(*refusal),
             Ending::SideTooLong => b"TooLong",
+            Ending::Report(refusal) => name_of_report(*refusal),
+            Ending::Denied(refusal) => name_of_denial(*refusal),
             Ending::Lrat(LratRefusal::Word { .. }) => b"Word",
             Ending::Lrat(LratRefusal::Form { .. }) => b"Form",
             Ending::Lrat(LratRefusal::NoMemory) => b"NoMemory",
-            Ending::Step { fault, .. } => name_of_step(fault),
+            Ending::Step { fault, .. } => name_of_step(*fault),
             Ending::Unfinished { .. } => b"Unfinished",
             _ => b"",
         }
     }
 
-    /// The line that is refused, where the refusal has a place.
-    fn line(self) -> Option<u32>
-        ensures { result ≡ line_of self }
+    /// Where what is refused lies.
+    fn spot(&self) -> Spot
+        ensures { result ≡ spot_of self.now }
     {
         match self {
+            Ending::Pla(refusal) => spot_of_pla(*refusal),
+            Ending::Denied(refusal) => spot_of_denial(*refusal),
             Ending::Cnf(CnfRefusal::Header { line })
             | Ending::Cnf(CnfRefusal::Literal { line })
             | Ending::Cnf(CnfRefusal::Count { line })
             | Ending::Cnf(CnfRefusal::Unended { line })
             | Ending::Cnf(CnfRefusal::TooLarge { line })
+            | Ending::Report(ReportRefusal::Header { line })
+            | Ending::Report(ReportRefusal::Inputs { line })
+            | Ending::Report(ReportRefusal::Block { line })
+            | Ending::Report(ReportRefusal::Grid { line })
+            | Ending::Report(ReportRefusal::Trailing { line })
+            | Ending::Report(ReportRefusal::Truncated { line })
             | Ending::Lrat(LratRefusal::Word { line })
             | Ending::Lrat(LratRefusal::Form { line })
             | Ending::Step { line, .. }
-            | Ending::Unfinished { line } => Some(line),
-            _ => None,
+            | Ending::Unfinished { line } => Spot::At { line: *line },
+            _ => Spot::Nowhere,
+        }
+    }
+}
+
+/// Writes the line of notes of what is refused, which begins with these words.
+fn write_refusal<K: Sink>(sink: &mut K, lead: &[u8], name: &[u8], spot: Spot) -> Result<(), Failed>
+    ensures ok { OnOk result (Gains (K.got sink.old) (K.got sink.new) (said lead.now name.now spot)) }
+    ensures front { GainsFront (K.got sink.old) (K.got sink.new) (said lead.now name.now spot) }
+    ensures cause { HasCause (K.faults sink.old) (K.faults sink.new) result }
+{
+    let (mut first, mut second) = (Buffer::new(), Buffer::new());
+    match spot {
+        Spot::Nowhere => write_pieces(sink, &[lead, name, b"\n"]),
+        Spot::At { line } => {
+            let line = first.format(line).as_bytes();
+            write_pieces(sink, &[lead, name, b" at line ", line, b"\n"])
+        }
+        Spot::AssignmentAt { line, assign } => {
+            let line = first.format(line).as_bytes();
+            let number = second.format(assign.number()).as_bytes();
+            write_pieces(
+                sink,
+                &[
+                    lead,
+                    name,
+                    b" at line ",
+                    line,
+                    b" assignment ",
+                    number,
+                    b"\n",
+                ],
+            )
+        }
+        Spot::AssignmentOf { output, assign } => {
+            let output = first.format(output).as_bytes();
+            let number = second.format(assign.number()).as_bytes();
+            write_pieces(
+                sink,
+                &[
+                    lead,
+                    name,
+                    b" output ",
+                    output,
+                    b" assignment ",
+                    number,
+                    b"\n",
+                ],
+            )
         }
     }
 }
 
 /// Writes the line of notes of an ending.
-pub fn write_note<K: Sink>(sink: &mut K, ending: Ending) -> Result<(), Failed>
-    ensures ok { OnOk result (Gains (K.got sink.old) (K.got sink.new) (note_text ending)) }
-    ensures front { GainsFront (K.got sink.old) (K.got sink.new) (note_text ending) }
+pub fn write_note<K: Sink>(sink: &mut K, ending: &Ending) -> Result<(), Failed>
+    ensures ok { OnOk result (Gains (K.got sink.old) (K.got sink.new) (note_text ending.now)) }
+    ensures front { GainsFront (K.got sink.old) (K.got sink.new) (note_text ending.now) }
     ensures cause { HasCause (K.faults sink.old) (K.faults sink.new) result }
 {
-    if ending == Ending::Done {
-        return write_pieces(sink, &[]);
-    }
-    match ending.line() {
-        None => write_pieces(sink, &[ending.lead(), ending.name(), b"\n"]),
-        Some(line) => {
-            let mut digits = Buffer::new();
-            let line = digits.format(line).as_bytes();
-            write_pieces(
-                sink,
-                &[ending.lead(), ending.name(), b" at line ", line, b"\n"],
-            )
-        }
+    match ending {
+        Ending::Done => write_pieces(sink, &[]),
+        _ => write_refusal(sink, ending.lead(), ending.name(), ending.spot()),
     }
 }

@@ -5,8 +5,10 @@ ghost use Rattle.four_lattice.specs.Words.{is_plain, job_of};
 /// What the words ask for.
 #[derive(Clone, Copy, Debug, PartialEq, Eq)]
 pub enum Job {
-    /// `pairs`: the pairs lattices of a PLA.
-    Pairs,
+    /// `pairs`: the pairs lattice of the chosen output of a PLA, or of each.
+    Pairs { output: Option<u32> },
+    /// `verify FILE`: whether the lattices of the report in a file realise the outputs of a PLA.
+    Verify,
     /// `check FILE`: whether the steps of a file refute a CNF.
     Check,
 }
@@ -26,7 +28,7 @@ fn job_of_one(word: &str) -> Option<Job>
     ensures { result ≡ job_of (word.now ∷ []) }
 {
     if word == "pairs" {
-        Some(Job::Pairs)
+        Some(Job::Pairs { output: None })
     } else {
         None
     }
@@ -36,7 +38,9 @@ fn job_of_one(word: &str) -> Option<Job>
 fn job_of_two(word: &str, file: &str) -> Option<Job>
     ensures { result ≡ job_of (word.now ∷ file.now ∷ []) }
 {
-    if word == "check" && is_plain_word(file) {
+    if word == "verify" && is_plain_word(file) {
+        Some(Job::Verify)
+    } else if word == "check" && is_plain_word(file) {
         Some(Job::Check)
     } else {
         None

@@ -11,3 +11,7 @@ mod lattices;
 mod pairs;
 #[cfg(test)]
 mod paths;
+#[cfg(test)]
+mod row;
+#[cfg(test)]
+mod verify;

@@ -1,6 +1,12 @@
-pub mod NumberLaws
 pub mod NamesLaws
 pub mod NameLaws
-pub mod RowsLaws
-pub mod TablesLaws
-pub mod PlainLaws
+pub mod LinesLaws
+pub mod NumberLaws
+pub mod SetsLaws
+pub mod StateLaws
+pub mod WordsLaws
+pub mod ReachLaws
+pub mod FinalLaws
+pub mod AnswersLaws
+pub mod PlainTextLaws
+pub mod PlainReadingLaws

@@ -2,9 +2,7 @@
 use Rattle.std.specs.Prelude.{◌≡◌, ℕ, ◌≤◌, List, length, map, All}
 use Rattle.cube_core.specs.Function.{Function}
 use Rattle.pla_reader.specs.declared.pla.Pla.{Pla}
-use Rattle.pla_reader.specs.Plain.{Plain, Spells}
-use Rattle.pla_reader.specs.Meaning.{functions_of}
-use Rattle.pla_reader.specs.Names.{bytes_of, default_names}
+use Rattle.pla_reader.specs.Names.{bytes_of}
 
 -- a PLA without where it lies in memory
 pub record Parts : Type 0 where
@@ -25,16 +23,6 @@ parts_of pla = record {
   rest = pla.rest;
 }
 
--- The text begins with the spelling of a plain text, and these parts are its meaning and the place after it.
-pub record Reads (bytes : List ℕ) (parts : Parts) : Type 0 where
-  pub plain : Plain
-  pub spelled : Spells bytes plain parts.rest
-  pub inputs : parts.inputs ≡ plain.inputs
-  pub outputs : parts.outputs ≡ plain.outputs
-  pub input_names : parts.input_names ≡ default_names 120 plain.inputs
-  pub output_names : parts.output_names ≡ default_names 102 plain.outputs
-  pub functions : parts.functions ≡ functions_of plain
-
 -- There is a name for each input, and a name and a function of these inputs for each output.
 pub record IsPla (parts : Parts) : Type 0 where
   pub some_inputs : 1 ≤ parts.inputs
@@ -45,7 +33,3 @@ pub record IsPla (parts : Parts) : Type 0 where
   pub output_names : length parts.output_names ≡ parts.outputs
   pub functions : length parts.functions ≡ parts.outputs
   pub each : All (λ f. f.inputs ≡ parts.inputs) parts.functions
-
--- A text is read in one way.
-abbrev pub IsReadOneWay : Type 0
-IsReadOneWay = (bytes : List ℕ) (a b : Parts) → Reads bytes a → Reads bytes b → a ≡ b

@@ -11,9 +11,8 @@ ghost use Rattle.report_text.specs.Report.{ReportParts, parts_of_block, parts_of
 use crate::answer::{Answer, Block, Report};
 use crate::block::{BlockFault, block_at};
 use crate::heading::behind;
-use crate::text::{cut, word_at};
+use crate::text::{cut, strip, word_at};
 use pla_reader::name::Name;
-use pla_reader::rows::strip;
 use std::alloc::{AllocFailed, Global};
 use wire_io::fault::NoMemory as OutOfMemory;
 

@@ -1,5 +1,5 @@
 //! Words and numbers of a text.
-ghost use Rattle.std.specs.Prelude.{◌≡◌, ◌≢◌, ℕ, ◌<◌, ◌^◌, ◌∷◌, decimal, ◌==◌, position, length, slice_index, MatchOption};
+ghost use Rattle.std.specs.Prelude.{◌≡◌, ◌≢◌, ℕ, ◌<◌, ◌^◌, ◌∷◌, ◌++◌, List, decimal, ◌==◌, position, length, slice_index, MatchOption};
 ghost use Rattle.report_text.specs.Pieces.{Without, Cuts, words, words_left};
 
 /// The place of the first of these bytes.
@@ -15,6 +15,13 @@ pub fn cut(bytes: &[u8], at: u8) -> Option<(&[u8], &[u8])>
 {
     let place = place_of(bytes, at)?;
     Some((&bytes[..place], &bytes[place + 1..]))
+}
+
+/// What follows the word at the front.
+pub fn strip<'a>(bytes: &'a [u8], word: &[u8]) -> Option<&'a [u8]>
+    ensures { MatchOption result ((rest : List ℕ) → bytes.now ≢ word.now ++ rest) (λ rest. bytes.now ≡ word.now ++ rest.now) }
+{
+    bytes.strip_prefix(word)
 }
 
 /// The word up to the first blank, and what follows the blank where there is one.

@@ -1,0 +1,187 @@
+//! The command `verify`.
+ghost use Rattle.std.specs.Prelude.{◌≡◌, ◌≢◌, ℕ, ◌+◌, ◌*◌, ◌≤◌, ◌⊎◌, length, map, IfOk, OnOk, IfErr, MatchOption, MatchResult, IsTrue, ◌↔◌};
+ghost use Rattle.cube_core.specs.Function.{Function};
+ghost use Rattle.pla_reader.specs.Names.{bytes_of};
+ghost use Rattle.pla_reader.specs.Parts.{parts_of, IsPla};
+ghost use Rattle.report_text.specs.Reading.{lines_in};
+ghost use Rattle.report_text.specs.Report.{parts_of_block, parts_of_report};
+ghost use Rattle.four_lattice.specs.Verified.{lattice_in, IsOf, IsRight, AreRight, IsBlockRefused, HasRefusedBlock, IsVerified, IsDenied};
+ghost use Rattle.four_lattice.specs.declared.verify.VerifyRefusal.{VerifyRefusal};
+
+use cube_core::assign::Assign;
+use cube_core::spec::Spec;
+use lattice_grid::grid::Grid;
+use path_meaning::marks::Marks;
+use path_meaning::realise::realises;
+use pla_reader::name::Name;
+use pla_reader::pla::Pla;
+use report_text::answer::{Answer, Block, Report};
+use std::alloc::Global;
+use wire_io::fault::NoMemory as OutOfMemory;
+
+/// The number of the line on which the first block of a report begins.
+const FIRST_BLOCK_LINE: u32 = 3;
+
+/// Why a report does not verify: the first of these, with the line of the names, or on which its block begins.
+#[derive(Clone, Copy, Debug, PartialEq, Eq)]
+pub enum VerifyRefusal {
+    /// The names of the inputs are not the PLA's.
+    Inputs { line: u32 },
+    /// The block has not the number and the name of an output, or does not come after the one before.
+    Output { line: u32 },
+    /// The lattice names an input that the PLA has not.
+    Literal { line: u32 },
+    /// The lattice does not realise the output; this is the least assignment at which it fails.
+    Wrong { line: u32, assign: Assign },
+    /// There was no memory for the marks of cells.
+    NoMemory,
+}
+
+impl From<OutOfMemory> for VerifyRefusal {
+    ghost use Rattle.four_lattice.specs.declared.verify.VerifyRefusal.TheVariants.{NoMemory};
+
+    ghost from_gives = { λ _ refusal. refusal ≡ NoMemory };
+
+    fn from(_: OutOfMemory) -> Self {
+        VerifyRefusal::NoMemory
+    }
+}
+
+/// The lattice of an answer.
+fn lattice_of(answer: &Answer) -> &Grid
+    ensures { result.now ≡ lattice_in answer.now }
+{
+    match answer {
+        Answer::Found(grid) | Answer::Minimum(grid) | Answer::Undecided { grid, .. } => grid,
+    }
+}
+
+/// How many lines a block has: one, and one for each row.
+fn lines_of(answer: &Answer) -> u32
+    ensures same { result ≡ lines_in answer.now }
+    ensures few { result ≤ 1048577 }
+{
+    lattice_of(answer).shape().rows() + 1
+}
+
+/// Marks for so many cells, the old ones where they suffice.
+fn marks_for(alloc: Global, marks: Marks, cells: u32) -> Result<Marks, OutOfMemory>
+    ensures { IfOk result (λ marks. cells ≤ marks) }
+{
+    if marks.cells() >= cells {
+        Ok(marks)
+    } else {
+        Marks::new(alloc, cells)
+    }
+}
+
+/// The function of the output that a block is of: None exactly where the block is of none that is not below `least`.
+fn function_of<'a>(pla: &'a Pla, block: &Block, least: u32) -> Option<&'a Spec>
+    ensures { MatchOption result
+        ((f : Function) → IsOf (parts_of pla.now) least (parts_of_block block.now) f → ⊥)
+        (λ spec. IsOf (parts_of pla.now) least (parts_of_block block.now) spec.now) }
+{
+    if block.output < least {
+        return None;
+    }
+    let output = block.output as usize;
+    let name = pla.output_names.as_slice().get(output)?;
+    let spec = pla.specs.get(output)?;
+    if name.bytes() == block.name.bytes() {
+        Some(spec)
+    } else {
+        None
+    }
+}
+
+/// Tests the block that begins at a line.
+fn test_block(
+    pla: &Pla,
+    block: &Block,
+    least: u32,
+    line: u32,
+    marks: &mut Marks,
+) -> Result<(), VerifyRefusal>
+    requires room { (lattice_in block.now.answer).size.rows * (lattice_in block.now.answer).size.cols ≤ marks.old }
+    ensures right { OnOk result (IsRight (parts_of pla.now) least (parts_of_block block.now)) }
+    ensures refused { IfErr result (IsBlockRefused (parts_of pla.now) least line (parts_of_block block.now)) }
+    ensures kept { marks.new ≡ marks.old }
+{
+    let Some(spec) = function_of(pla, block, least) else {
+        return Err(VerifyRefusal::Output { line });
+    };
+    let grid = lattice_of(&block.answer);
+    if !grid.names_below(pla.inputs) {
+        return Err(VerifyRefusal::Literal { line });
+    }
+    match realises(spec, grid, marks) {
+        Ok(()) => Ok(()),
+        Err(assign) => Err(VerifyRefusal::Wrong { line, assign }),
+    }
+}
+
+/// Tests each block after those before it.
+fn test_blocks(alloc: Global, pla: &Pla, blocks: &[Block]) -> Result<(), VerifyRefusal>
+    requires { IsPla (parts_of pla.now) }
+    ensures right { OnOk result (AreRight (parts_of pla.now) (map parts_of_block blocks.now) (length blocks.now)) }
+    ensures few { OnOk result (length blocks.now ≤ 64) }
+    ensures refused { IfErr result (λ refusal. refusal ≢ VerifyRefusal.NoMemory →
+        HasRefusedBlock (parts_of pla.now) (map parts_of_block blocks.now) refusal) }
+{
+    let mut marks = Marks::new(alloc, 1)?;
+    let mut least = 0;
+    let mut line = FIRST_BLOCK_LINE;
+    for block in blocks {
+        marks = marks_for(alloc, marks, lattice_of(&block.answer).shape().area())?;
+        if let Err(refusal) = test_block(pla, block, least, line, &mut marks) {
+            return Err(refusal);
+        }
+        least = block.output + 1;
+        line += lines_of(&block.answer);
+    }
+    Ok(())
+}
+
+/// Whether two lists have the same names, in the same order.
+fn are_same_names(names: &[Name], others: &[Name]) -> bool
+    ensures { IsTrue result ↔ (map bytes_of names.now ≡ map bytes_of others.now) }
+{
+    if names.len() != others.len() {
+        return false;
+    }
+    for (place, name) in names.iter().enumerate() {
+        if name.bytes() != others[place].bytes() {
+            return false;
+        }
+    }
+    true
+}
+
+/// Tests a report.
+fn test_report(alloc: Global, pla: &Pla, report: &Report) -> Result<u32, VerifyRefusal>
+    requires { IsPla (parts_of pla.now) }
+    ensures many { IfOk result (λ many. many ≡ length report.now.blocks.items) }
+    ensures verified { OnOk result (IsVerified (parts_of pla.now) (parts_of_report report.now)) }
+    ensures refused { IfErr result (λ refusal. refusal ≢ VerifyRefusal.NoMemory → IsDenied (parts_of pla.now) (parts_of_report report.now) refusal) }
+{
+    if !are_same_names(&report.input_names, pla.input_names.as_slice()) {
+        return Err(VerifyRefusal::Inputs { line: 2 });
+    }
+    test_blocks(alloc, pla, &report.blocks)?;
+    Ok(report.blocks.len() as u32)
+}
+
+/// The number of blocks of a report whose names are the PLA's and each lattice of which realises its output, or why it
+/// is refused, at the first block that fails.
+pub fn verify(alloc: Global, pla: &Pla, report: &Report) -> Result<u32, VerifyRefusal>
+    requires { IsPla (parts_of pla.now) }
+    ensures many { IfOk result (λ many. many ≡ length report.now.blocks.items) }
+    ensures verified { OnOk result (IsVerified (parts_of pla.now) (parts_of_report report.now)) }
+    ensures refused { IfErr result (λ refusal. refusal ≢ VerifyRefusal.NoMemory → IsDenied (parts_of pla.now) (parts_of_report report.now) refusal) }
+    // A report that verifies, or has a refusal, gets no other answer but want of memory.
+    ensures only_verified { IsVerified (parts_of pla.now) (parts_of_report report.now) → MatchResult result (λ _. Unit {0}) (λ refusal. refusal ≡ VerifyRefusal.NoMemory) }
+    ensures only_refusal { (refusal : VerifyRefusal) → IsDenied (parts_of pla.now) (parts_of_report report.now) refusal →
+        MatchResult result (λ _. ⊥) (λ other. (other ≡ refusal) ⊎ (other ≡ VerifyRefusal.NoMemory)) }
+{
+    test_report(alloc, pla, report)
+}

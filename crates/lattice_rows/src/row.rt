@@ -1,0 +1,76 @@
+//! Rows of runs: what a command answers over texts in memory.
+use four_lattice::run::run;
+use four_lattice::status::Status;
+use std::alloc::Global;
+use std::process::Abort;
+use std::test::Fail;
+use wire_io::firm::{FirmSink, FirmSource};
+
+/// The words of a command, the texts that it reads, and the status, the output and the line of notes of its run.
+#[derive(Drop)]
+pub struct Row {
+    pub words: &'static [&'static str],
+    pub pla: &'static str,
+    pub side: &'static str,
+    pub status: Status,
+    pub out: &'static str,
+    pub notes: &'static str,
+}
+
+/// The words as a command line has them.
+pub fn words_of(alloc: Global, words: &[&str]) -> Result<Vec<String>, Fail> {
+    let mut made = Vec::new(alloc);
+    for word in words {
+        made.push(String::from_str(alloc, word)?)?;
+    }
+    Ok(made)
+}
+
+/// Runs the command, and compares what it answers with the row.
+pub fn try_row(rt: &impl Abort, alloc: Global, row: &Row) -> Result<(), Fail> {
+    let words = words_of(alloc, row.words)?;
+    let mut pla = FirmSource::new(row.pla.as_bytes().to_vec(alloc)?, 4);
+    let mut side = FirmSource::new(row.side.as_bytes().to_vec(alloc)?, 3);
+    let mut out = FirmSink::new(alloc, 4000, 7)?;
+    let mut notes = FirmSink::new(alloc, 200, 1)?;
+    let status = run(alloc, &words, &mut pla, &mut side, &mut out, &mut notes);
+    assert_eq!(rt; status, row.status);
+    assert_eq!(rt; out.bytes(), row.out.as_bytes());
+    assert_eq!(rt; notes.bytes(), row.notes.as_bytes());
+    Ok(())
+}
+
+/// A row that writes its text.
+pub fn done(
+    words: &'static [&'static str],
+    pla: &'static str,
+    side: &'static str,
+    out: &'static str,
+) -> Row {
+    Row {
+        words,
+        pla,
+        side,
+        status: Status::Done,
+        out,
+        notes: "",
+    }
+}
+
+/// A row that is refused.
+pub fn refused(
+    words: &'static [&'static str],
+    pla: &'static str,
+    side: &'static str,
+    status: Status,
+    notes: &'static str,
+) -> Row {
+    Row {
+        words,
+        pla,
+        side,
+        status,
+        out: "",
+        notes,
+    }
+}
