@@ -2,6 +2,14 @@ pub mod BlocksLaws
 pub mod ReplayedLaws
 pub mod InputsLaws
 pub mod VerifiedLaws
+pub mod PrintedLaws
 pub mod OutcomeLaws
 pub mod SettledLaws
 pub mod EndsLaws
+pub mod JudgedLaws
+pub mod WordsClap
+pub mod WordsLaws
+pub mod WordsNumbers
+pub mod WordsRules
+pub mod WordsTaken
+pub mod WordsTurns

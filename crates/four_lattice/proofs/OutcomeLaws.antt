@@ -20,7 +20,7 @@ use Rattle.report_text.specs.Report.{ReportParts, report_text}
 use Rattle.report_text.proofs.OneLaws.{one_answer}
 use Rattle.four_lattice.specs.Check.{IsFirstFault, IsAccepted, adds_empty, end_line}
 use Rattle.four_lattice.specs.Lattices.{IsThere, report_by}
-use Rattle.four_lattice.specs.Outcome.{Outcome, Stage, Last, PlaRefuses, PlaGives, CnfRefuses, CnfGives, LratRefuses, LratGives, ReportRefuses, ReportGives, LacksOutput, Denies, LinesRefuse, realised_text, ComesTo}
+use Rattle.four_lattice.specs.Outcome.{Outcome, Stage, Last, PlaRefuses, PlaGives, CnfRefuses, CnfGives, LratRefuses, LratGives, ReportRefuses, ReportGives, LacksOutput, Denies, LinesRefuse, realised_text, LatticesOf, ComesTo}
 use Rattle.four_lattice.specs.Verified.{IsVerified}
 use Rattle.four_lattice.specs.declared.lattices.Construction.{Construction}
 use Rattle.four_lattice.specs.declared.status.Ending.{Ending}
@@ -183,10 +183,7 @@ no_lines : (told : Option (List ℕ)) (formula : Formula) (lines : List Line) (a
 no_lines told formula lines a p q = elim p [ inl h ↦ accepted_and_refused formula lines h.0 h.1 q.0 h.2 | inr h ↦ true≢false (sym q.1 ∙ h.1.1) ]
 
 -- lattices of chosen outputs
-pub lattices_once : (how : Construction) (output : Option ℕ) (pla : Option (List ℕ)) (bytes : List ℕ) → pla ≡ Some bytes → (o p : Outcome)
-    → Stage Parts (PlaRefuses pla) (PlaGives pla) (λ parts. Last (LacksOutput output parts) (IsThere output parts.outputs) (report_text (report_by how output parts))) o
-    → Stage Parts (PlaRefuses pla) (PlaGives pla) (λ parts. Last (LacksOutput output parts) (IsThere output parts.outputs) (report_text (report_by how output parts))) p
-    → o ≡ p
+pub lattices_once : (how : Construction) (output : Option ℕ) (pla : Option (List ℕ)) (bytes : List ℕ) → pla ≡ Some bytes → (o p : Outcome) → LatticesOf how output pla o → LatticesOf how output pla p → o ≡ p
 lattices_once how output pla bytes t o p a b =
     stage_one Parts (PlaRefuses pla) (PlaGives pla) (λ parts. Last (LacksOutput output parts) (IsThere output parts.outputs) (report_text (report_by how output parts)))
     (one_pla_refusal pla bytes t) (no_pla pla bytes t) (one_pla pla bytes t)

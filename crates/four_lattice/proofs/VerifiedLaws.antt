@@ -42,7 +42,7 @@ cut_rest xs before rest x e = ap (drop (length before)) e ∙ drop-append_seam b
 head_of : {X : Type 0} (x y : X) (xs ys : List X) → x ∷ xs ≡ y ∷ ys → x ≡ y
 head_of x y xs ys e = ap (λ l. get_or l 0 x) e
 
-least_output-push : (before : List BlockParts) (block : BlockParts) → least_output (before ++ block ∷ []) ≡ suc block.output
+pub least_output-push : (before : List BlockParts) (block : BlockParts) → least_output (before ++ block ∷ []) ≡ suc block.output
 least_output-push [] block = refl
 least_output-push (first ∷ []) block = refl
 least_output-push (first ∷ next ∷ before) block = least_output-push (next ∷ before) block

@@ -1,21 +1,23 @@
--- What `pairs` answers: a report of the lattices of the chosen outputs.
+-- What `pairs` and `dual` answer: a report of the lattices of the chosen outputs.
 use Rattle.std.specs.Prelude.{ℕ, suc, ◌<◌, List, [], ◌∷◌, take, drop, Some, None}
 use Rattle.std.specs.declared.option.Option.{Option}
 use Rattle.wire_io.specs.Causes.{Rose}
 use Rattle.cube_core.specs.Function.{Function}
 use Rattle.lattice_grid.specs.Lattice.{Lattice}
 use Rattle.lattice_grid.specs.Pairs.{pairs_of}
+use Rattle.dual_product.specs.Dual.{dual_of}
 use Rattle.pla_reader.specs.Parts.{Parts}
 use Rattle.report_text.specs.declared.answer.Answer.TheVariants.{Found}
 use Rattle.report_text.specs.Report.{BlockParts, ReportParts}
 use Rattle.four_lattice.specs.declared.lattices.Construction.{Construction}
-use Rattle.four_lattice.specs.declared.lattices.Construction.TheVariants.{Pairs}
+use Rattle.four_lattice.specs.declared.lattices.Construction.TheVariants.{Pairs, Dual}
 use Rattle.four_lattice.specs.declared.lattices.WorkFault.{WorkFault}
 use Rattle.four_lattice.specs.declared.lattices.WorkFault.TheVariants.{Write, NoMemory}
 
 -- the lattice that a construction makes for a function
 abbrev pub made_by : Construction → Function → Lattice
 made_by Pairs f = pairs_of f
+made_by Dual f = dual_of f
 
 -- the blocks of the outputs from this one on, with these names and functions
 abbrev pub blocks_by : Construction → ℕ → List (List ℕ) → List Function → List BlockParts

@@ -1,5 +1,6 @@
 pub mod Ending
 pub mod Words
+pub mod WordsParts
 pub mod Check
 pub mod Checked
 pub mod Inputs

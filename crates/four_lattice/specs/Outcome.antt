@@ -19,12 +19,13 @@ use Rattle.report_text.specs.Report.{ReportParts, report_text}
 use Rattle.four_lattice.specs.Check.{IsFirstFault, IsAccepted, adds_empty, end_line}
 use Rattle.four_lattice.specs.Lattices.{IsThere, report_by}
 use Rattle.four_lattice.specs.Verified.{IsVerified, IsDenied}
+use Rattle.four_lattice.specs.declared.lattices.Construction.{Construction}
 use Rattle.four_lattice.specs.declared.lattices.Construction.TheVariants as construction
 use Rattle.four_lattice.specs.declared.status.Ending.{Ending}
 use Rattle.four_lattice.specs.declared.status.Ending.TheVariants.{Done, Pla, NoSuchOutput, Cnf, SideTooLong, Report, Lrat, Denied, Step, Unfinished}
 use Rattle.four_lattice.specs.declared.verify.VerifyRefusal.{VerifyRefusal}
 use Rattle.four_lattice.specs.declared.words.Job.{Job}
-use Rattle.four_lattice.specs.declared.words.Job.TheVariants.{Pairs, Verify, Check}
+use Rattle.four_lattice.specs.declared.words.Job.TheVariants.{Pairs, Dual, Verify, Check}
 
 -- how a run ends, and the text that it writes
 pub record Outcome : Type 0 where
@@ -89,11 +90,16 @@ LinesRefuse told formula lines ending =
 abbrev pub realised_text : ReportParts → List ℕ
 realised_text report = codes "realised " ++ (decimal (length report.blocks) ++ codes "\n")
 
+-- What a report of lattices comes to: that of the chosen outputs, where the PLA has them.
+abbrev pub LatticesOf : Construction → Option ℕ → Option (List ℕ) → Outcome → Type 0
+LatticesOf how output pla =
+    Stage Parts (PlaRefuses pla) (PlaGives pla) (λ parts.
+    Last (LacksOutput output parts) (IsThere output parts.outputs) (report_text (report_by how output parts)))
+
 -- What the texts of a job come to: that of the PLA or the formula first, then that of the side file.
 abbrev pub ComesTo : Job → Option (List ℕ) → Option (List ℕ) → Outcome → Type 0
-ComesTo (Pairs output) pla side =
-    Stage Parts (PlaRefuses pla) (PlaGives pla) (λ parts.
-    Last (LacksOutput output parts) (IsThere output parts.outputs) (report_text (report_by construction.Pairs output parts)))
+ComesTo (Pairs output) pla side = LatticesOf construction.Pairs output pla
+ComesTo (Dual output) pla side = LatticesOf construction.Dual output pla
 ComesTo Verify pla side =
     Stage Parts (PlaRefuses pla) (PlaGives pla) (λ parts.
     Stage ReportParts (ReportRefuses side) (ReportGives side) (λ report.

@@ -19,7 +19,7 @@ use Rattle.four_lattice.specs.Words.{job_of}
 use Rattle.four_lattice.specs.declared.lattices.Construction.{Construction}
 use Rattle.four_lattice.specs.declared.lattices.Construction.TheVariants as construction
 use Rattle.four_lattice.specs.declared.words.Job.{Job}
-use Rattle.four_lattice.specs.declared.words.Job.TheVariants.{Pairs, Verify, Check}
+use Rattle.four_lattice.specs.declared.words.Job.TheVariants.{Pairs, Dual, Verify, Check}
 use Rattle.four_lattice.specs.declared.status.Status.{Status}
 use Rattle.four_lattice.specs.declared.status.Status.TheVariants as status
 use Rattle.four_lattice.specs.declared.status.Ending.{Ending}
@@ -38,11 +38,12 @@ pub record Devices : Type 0 where
   pub out : Device
   pub out' : Device
 
--- The PLA has the chosen outputs, and the sink gained the report of their lattices, or a front of it.
+-- The PLA has the chosen outputs, the report of their lattices verifies, and the sink gained it, or a front of it.
 pub record Reports (how : Construction) (output : Option ℕ) (d : Devices) (Takes : Option (List ℕ) → Option (List ℕ) → List ℕ → Type 0) : Type 0 where
   pub parts : Parts
   pub gives : PlaGives d.pla.told parts
   pub there : IsThere output parts.outputs
+  pub verified : IsVerified parts (report_by how output parts)
   pub gained : Takes d.out.told d.out'.told (report_text (report_by how output parts))
 
 -- The PLA has not the chosen output.
@@ -121,8 +122,9 @@ IsUntouched d = (d.pla' ≡ d.pla) × (d.side' ≡ d.side) × (d.out' ≡ d.out)
 
 -- How a run ends, by the job that the words ask for.
 abbrev pub EndsSo : Option Job → Ending → Devices → Type 0
-EndsSo None ending d = (ending ≡ Words) × IsUntouched d
+EndsSo None ending d = ((ending ≡ Words) ⊎ (ending ≡ NoMemory)) × IsUntouched d
 EndsSo (Some (Pairs output)) ending d = EndsLattices construction.Pairs output ending d
+EndsSo (Some (Dual output)) ending d = EndsLattices construction.Dual output ending d
 EndsSo (Some Verify) ending d = EndsVerify ending d
 EndsSo (Some Check) ending d = EndsCheck ending d
 
@@ -149,18 +151,30 @@ pub record Answers (job : Option Job) (result : Status) (d : Devices) (notes not
 -- The inputs of a job are told.
 abbrev pub AreTold : Job → Devices → Type 0
 AreTold (Pairs output) d = (pla : List ℕ) × (d.pla.told ≡ Some pla)
+AreTold (Dual output) d = (pla : List ℕ) × (d.pla.told ≡ Some pla)
 AreTold job d = (pla : List ℕ) × (side : List ℕ) × (d.pla.told ≡ Some pla) × (d.side.told ≡ Some side)
+
+-- An input that the job calls failed.
+abbrev pub InputFails : Job → Devices → Type 0
+InputFails (Pairs output) d = Rose d.pla.faults d.pla'.faults
+InputFails (Dual output) d = Rose d.pla.faults d.pla'.faults
+InputFails job d = Rose d.pla.faults d.pla'.faults ⊎ Rose d.side.faults d.side'.faults
 
 -- Memory was wanting; an input failed; the output failed, where there was something to write; or the run ended as it was to,
 -- with its status, its text and its line of notes.
-abbrev pub IsSettled : Outcome → Status → Devices → Device → Device → Type 0
-IsSettled outcome result d notes notes' =
+abbrev pub IsSettled : Type 0 → Outcome → Status → Devices → Device → Device → Type 0
+IsSettled Fails outcome result d notes notes' =
     (result ≡ status.NoMemory)
-    ⊎ (((result ≡ status.ReadFault) × (Rose d.pla.faults d.pla'.faults ⊎ Rose d.side.faults d.side'.faults))
+    ⊎ (((result ≡ status.ReadFault) × Fails)
     ⊎ (((result ≡ status.WriteFault) × (outcome.ending ≡ Done) × Rose d.out.faults d.out'.faults)
     ⊎ ((result ≡ status_of outcome.ending) × Gains d.out.told d.out'.told outcome.text × IsNoted notes notes' (note_text outcome.ending))))
 
 -- Whatever the told texts of the job come to, that is how the run ends, but for faults and want of memory.
 abbrev pub Settles : Option Job → Status → Devices → Device → Device → Type 0
 Settles asked result d notes notes' =
-    (job : Job) → asked ≡ Some job → AreTold job d → (outcome : Outcome) → ComesTo job d.pla.told d.side.told outcome → IsSettled outcome result d notes notes'
+    (job : Job) → asked ≡ Some job → AreTold job d → (outcome : Outcome) → ComesTo job d.pla.told d.side.told outcome → IsSettled (InputFails job d) outcome result d notes notes'
+
+-- Refused words come exactly where the words are no command's, but for want of memory.
+pub record AreJudged (asked : Option Job) (result : Status) : Type 0 where
+  pub refused : result ≡ status.Words → asked ≡ None
+  pub judged : asked ≡ None → (result ≡ status.Words) ⊎ (result ≡ status.NoMemory)

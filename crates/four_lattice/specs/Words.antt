@@ -1,19 +1,88 @@
--- What the words of the command line ask for.
-use Rattle.std.specs.Prelude.{ℕ, Bool, false, not, ◌&&◌, ◌==◌, List, [], ◌∷◌, codes, if◌then◌else◌, Some, None}
+-- What the words of the command line ask for. A word is its bytes.
+use Rattle.std.specs.Prelude.{ℕ, ◌==◌, ◌&&◌, ◌||◌, ◌++◌, Bool, true, false, not, List, [], ◌∷◌, length, drop, codes, Option, Some, None, is_none, find, option_and_then, option_map, nat_le, if◌then◌else◌}
+use Rattle.std.specs.List.{list_all}
+use Rattle.std.specs.Option.{option_map_or}
+use Rattle.std.specs.Char.{is_ascii_digit}
 use Rattle.std.specs.Str.{bytes_eq}
-use Rattle.std.specs.declared.option.Option.{Option}
+use Rattle.std.specs.Str.Parse.{digits_value}
 use Rattle.four_lattice.specs.declared.words.Job.{Job}
-use Rattle.four_lattice.specs.declared.words.Job.TheVariants.{Pairs, Verify, Check}
+use Rattle.four_lattice.specs.declared.words.Job.TheVariants as job
+use Rattle.four_lattice.specs.declared.words.Verb.{Verb}
+use Rattle.four_lattice.specs.declared.words.Verb.TheVariants.{Pairs, Dual, Verify, Check}
 
 -- a plain word is not empty, and does not begin with `-`
 abbrev pub is_plain : List ℕ → Bool
 is_plain [] = false
 is_plain (b ∷ bytes) = not (b == 45)
 
--- the job of a list of words: `pairs`, or `verify` or `check` and a file
+-- a number is at most ten decimal digits, the first of them no `0` but in `0` itself
+abbrev pub is_number : List ℕ → Bool
+is_number [] = false
+is_number (b ∷ bytes) = list_all is_ascii_digit (b ∷ bytes) && nat_le (length (b ∷ bytes)) 10 && (not (b == 48) || length bytes == 0)
+
+-- an option of a command: its name, and the least and the greatest number that it takes
+pub record Setting : Type 0 where
+  pub name : List ℕ
+  pub least : ℕ
+  pub most : ℕ
+
+-- a row of the table of commands: the options, and whether a plain word follows them
+pub record Row : Type 0 where
+  pub options : List Setting
+  pub wants_file : Bool
+
+-- `--output`, of 0 to 63
+abbrev pub output_setting : Setting
+output_setting = record { name = codes "output"; least = 0; most = 63 }
+
+-- the table of commands
+abbrev pub row_of : Verb → Row
+row_of Pairs = record { options = output_setting ∷ []; wants_file = false }
+row_of Dual = record { options = output_setting ∷ []; wants_file = false }
+row_of Verify = record { options = []; wants_file = true }
+row_of Check = record { options = []; wants_file = true }
+
+-- the command that a word names
+abbrev pub verb_of : List ℕ → Option Verb
+verb_of word =
+    if bytes_eq word (codes "pairs") then Some Pairs
+    else (if bytes_eq word (codes "dual") then Some Dual
+    else (if bytes_eq word (codes "verify") then Some Verify
+    else (if bytes_eq word (codes "check") then Some Check
+    else None)))
+
+-- options that were given, each a name with its number
+abbrev pub Given : Type 0
+Given = List (List ℕ × ℕ)
+
+-- the number that was given for a name
+abbrev pub number_given : List ℕ → Given → Option ℕ
+number_given name given = option_map (λ g. g.1) (find (λ g. bytes_eq g.0 name) given)
+
+-- the number is one that the option takes
+abbrev pub is_within : Setting → ℕ → Bool
+is_within o n = nat_le o.least n && nat_le n o.most
+
+-- the word is `--` and the name of an option of the row that is not given yet, and the word after it is a number that it takes
+abbrev pub may_give : Row → Given → List ℕ → List ℕ → Bool
+may_give row given word next =
+    option_map_or (λ o. is_none (number_given o.name given) && is_number next && is_within o (digits_value 10 next))
+    (find (λ o. bytes_eq (codes "--" ++ o.name) word) row.options) false
+
+-- what is given once the words after the command are read, where those before gave this
+abbrev pub given_of : Row → Given → List (List ℕ) → Option Given
+given_of row given [] = if row.wants_file then None else Some given
+given_of row given (word ∷ []) = if row.wants_file && is_plain word then Some given else None
+given_of row given (word ∷ next ∷ rest) = if may_give row given word next then given_of row (given ++ (drop 2 word, digits_value 10 next) ∷ []) rest else None
+
+-- the job of a command for which this is given
+abbrev pub job_from : Verb → Given → Job
+job_from Pairs given = job.Pairs (number_given (codes "output") given)
+job_from Dual given = job.Dual (number_given (codes "output") given)
+job_from Verify given = job.Verify
+job_from Check given = job.Check
+
+-- the job of a list of words, of which the first is the command
 abbrev pub job_of : List (List ℕ) → Option Job
 job_of [] = None
-job_of (word ∷ []) = if bytes_eq word (codes "pairs") then Some (Pairs None) else None
-job_of (word ∷ file ∷ []) =
-    if bytes_eq word (codes "verify") && is_plain file then Some Verify else if bytes_eq word (codes "check") && is_plain file then Some Check else None
-job_of (word ∷ file ∷ more ∷ words) = None
+job_of (word ∷ words) = option_and_then (λ verb. option_map (job_from verb) (given_of (row_of verb) [] words)) (verb_of word)

@@ -1,4 +1,4 @@
-//! The command `pairs`.
+//! The commands `pairs` and `dual`.
 ghost use Rattle.std.specs.Prelude.{◌≡◌, ℕ, ◌+◌, ◌<◌, ◌≤◌, List, length, map, IfOk, OnOk, IfErr, IsTrue, ◌↔◌, MatchOption};
 ghost use Rattle.wire_io.specs.Told.{Gains, GainsFront};
 ghost use Rattle.pla_reader.specs.Names.{bytes_of};
@@ -8,6 +8,7 @@ ghost use Rattle.four_lattice.specs.Lattices.{made_by, blocks_by, report_by, IsT
 ghost use Rattle.four_lattice.specs.declared.lattices.WorkFault.TheVariants.{Write, NoMemory};
 
 use cube_core::spec::Spec;
+use dual_product::dual::dual_product;
 use lattice_grid::grid::Grid;
 use lattice_grid::pairs::pairs;
 use pla_reader::name::Name;
@@ -23,6 +24,8 @@ use wire_io::sink::Sink;
 pub enum Construction {
     /// A column for each on assignment, a row for each off assignment.
     Pairs,
+    /// A column for each cube of a cover, a row for each cube of a cover of what that one leaves.
+    Dual,
 }
 
 impl Construction {
@@ -32,6 +35,7 @@ impl Construction {
     {
         match self {
             Construction::Pairs => pairs(alloc, spec),
+            Construction::Dual => dual_product(alloc, spec),
         }
     }
 }

@@ -7,4 +7,4 @@ mod lattices;
 pub mod run;
 pub mod status;
 pub mod verify;
-mod words;
+pub mod words;

@@ -7,14 +7,14 @@ ghost use Rattle.four_lattice.specs.Outcome.{Outcome, ComesTo};
 ghost use Rattle.pla_reader.specs.Parts.{parts_of, IsPla};
 ghost use Rattle.report_text.specs.Report.{parts_of_report};
 ghost use Rattle.four_lattice.specs.Verified.{IsVerified, EndsReportTest};
-ghost use Rattle.four_lattice.specs.Run.{job_asked, EndsLattices, EndsVerify, EndsCheck, EndsSo, Answers, Settles};
+ghost use Rattle.four_lattice.specs.Run.{job_asked, EndsLattices, EndsVerify, EndsCheck, EndsSo, Answers, AreJudged, Settles};
 
 use crate::check::{Replayed, replay_lines};
 use crate::inputs::{Proof, input_cnf, input_pla, input_proof, input_report};
 use crate::lattices::{Construction, WorkFault, has_output, write_lattices};
 use crate::status::{Ending, Status, write_note};
 use crate::verify::{VerifyRefusal, verify};
-use crate::words::{Job, job_asked_for};
+use crate::words::{Job, WordsFault, settings};
 use clause_core::formula::Formula;
 use itoa::Buffer;
 use lrat_replay::replay::Replay;
@@ -184,15 +184,15 @@ fn end_of_check<S: Source, K: Sink>(alloc: Global, pla: &mut S, side: &mut S, ou
     }
 }
 
-/// How a run ends, by the job that its words ask for.
+/// How a job ends.
 fn end_of_job<S: Source, K: Sink>(
     alloc: Global,
-    job: Option<Job>,
+    job: Job,
     pla: &mut S,
     side: &mut S,
     out: &mut K,
 ) -> Ending
-    ensures ends { EndsSo job result record {
+    ensures ends { EndsSo (Some job) result record {
       pla = record { told = S.left pla.old; faults = S.faults pla.old };
       pla' = record { told = S.left pla.new; faults = S.faults pla.new };
       side = record { told = S.left side.old; faults = S.faults side.old };
@@ -205,12 +205,41 @@ fn end_of_job<S: Source, K: Sink>(
     ensures out_later { K.faults out.old ≤ K.faults out.new }
 {
     match job {
-        None => Ending::Words,
-        Some(Job::Pairs { output }) => {
+        Job::Pairs { output } => {
             end_of_lattices(alloc, Construction::Pairs, output, pla, side, out)
         }
-        Some(Job::Verify) => end_of_verify(alloc, pla, side, out),
-        Some(Job::Check) => end_of_check(alloc, pla, side, out),
+        Job::Dual { output } => {
+            end_of_lattices(alloc, Construction::Dual, output, pla, side, out)
+        }
+        Job::Verify => end_of_verify(alloc, pla, side, out),
+        Job::Check => end_of_check(alloc, pla, side, out),
+    }
+}
+
+/// How a run ends, by what its words ask for.
+fn end_of_words<S: Source, K: Sink>(
+    alloc: Global,
+    words: &[String],
+    pla: &mut S,
+    side: &mut S,
+    out: &mut K,
+) -> Ending
+    ensures ends { EndsSo (job_asked words.now) result record {
+      pla = record { told = S.left pla.old; faults = S.faults pla.old };
+      pla' = record { told = S.left pla.new; faults = S.faults pla.new };
+      side = record { told = S.left side.old; faults = S.faults side.old };
+      side' = record { told = S.left side.new; faults = S.faults side.new };
+      out = record { told = K.got out.old; faults = K.faults out.old };
+      out' = record { told = K.got out.new; faults = K.faults out.new };
+    } }
+    ensures pla_later { S.faults pla.old ≤ S.faults pla.new }
+    ensures side_later { S.faults side.old ≤ S.faults side.new }
+    ensures out_later { K.faults out.old ≤ K.faults out.new }
+{
+    match settings(alloc, words) {
+        Ok(job) => end_of_job(alloc, job, pla, side, out),
+        Err(WordsFault::Refused) => Ending::Words,
+        Err(WordsFault::NoMemory) => Ending::NoMemory,
     }
 }
 
@@ -223,7 +252,7 @@ fn answer<S: Source, K: Sink>(
     out: &mut K,
     notes: &mut K,
 ) -> Status
-    ensures words { (result ≡ Status.Words) ↔ (job_asked words.now ≡ None) }
+    ensures words { AreJudged (job_asked words.now) result }
     ensures answers { Answers (job_asked words.now) result record {
       pla = record { told = S.left pla.old; faults = S.faults pla.old };
       pla' = record { told = S.left pla.new; faults = S.faults pla.new };
@@ -233,7 +262,7 @@ fn answer<S: Source, K: Sink>(
       out' = record { told = K.got out.new; faults = K.faults out.new };
     } (record { told = K.got notes.old; faults = K.faults notes.old }) (record { told = K.got notes.new; faults = K.faults notes.new }) }
 {
-    let ending = end_of_job(alloc, job_asked_for(words), pla, side, out);
+    let ending = end_of_words(alloc, words, pla, side, out);
     let _ = write_note(notes, &ending);
     ending.status()
 }
@@ -248,8 +277,8 @@ pub fn run<S: Source, K: Sink>(
     out: &mut K,
     notes: &mut K,
 ) -> Status
-    // The status of refused words comes exactly where the words are no command's.
-    ensures words { (result ≡ Status.Words) ↔ (job_asked words.now ≡ None) }
+    // The status of refused words comes exactly where the words are no command's, but for want of memory.
+    ensures words { AreJudged (job_asked words.now) result }
     // Each status has its cause, and the notes get its line.
     ensures answers { Answers (job_asked words.now) result record {
       pla = record { told = S.left pla.old; faults = S.faults pla.old };

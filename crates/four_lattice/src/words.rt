@@ -1,16 +1,83 @@
 //! The words of the command line.
-ghost use Rattle.std.specs.Prelude.{◌≡◌, map, string_bytes, ◌∷◌, []};
-ghost use Rattle.four_lattice.specs.Words.{is_plain, job_of};
+ghost use Rattle.std.specs.Prelude.{◌≡◌, ℕ, [], List, true, false, map, string_bytes, codes, Some, None, Err, IfOk, IsSomeAnd, option_map};
+ghost use Rattle.std.specs.Str.{bytes_eq};
+ghost use Rattle.std.specs.List.{list_all};
+ghost use Rattle.std.specs.Char.{is_ascii_digit};
+ghost use Rattle.clap.specs.Words.{app_of, kind_of, rule_of};
+ghost use Rattle.clap.specs.declared.error.kind.ErrorKind.TheVariants.{OutOfMemory};
+ghost use Rattle.four_lattice.specs.Words.{Given, given_of, is_number, is_plain, job_from, job_of, number_given, output_setting, row_of, verb_of};
+ghost use Rattle.four_lattice.specs.WordsParts.{Shows, bare_app, file_rule, is_option, is_spelled, number_rule, row_app, verb_name};
+
+use clap::error::ErrorKind;
+use clap::{Arg, ArgMatches, Command, value_parser};
+use std::alloc::{AllocError, Global};
 
 /// What the words ask for.
 #[derive(Clone, Copy, Debug, PartialEq, Eq)]
 pub enum Job {
-    /// `pairs`: the pairs lattice of the chosen output of a PLA, or of each.
+    /// `pairs`: the pairs lattices of a PLA, of one output or of all.
     Pairs { output: Option<u32> },
-    /// `verify FILE`: whether the lattices of the report in a file realise the outputs of a PLA.
+    /// `dual`: the dual lattices of a PLA, of one output or of all.
+    Dual { output: Option<u32> },
+    /// `verify FILE`: whether the lattices of a file are those of a PLA.
     Verify,
     /// `check FILE`: whether the steps of a file refute a CNF.
     Check,
+}
+
+/// A command, as its word names it.
+#[derive(Clone, Copy, Debug, PartialEq, Eq)]
+pub(crate) enum Verb {
+    Pairs,
+    Dual,
+    Verify,
+    Check,
+}
+
+/// Why the words give no job.
+#[derive(Clone, Copy, Debug, PartialEq, Eq)]
+pub enum WordsFault {
+    /// They are not settings of a command.
+    Refused,
+    /// Memory was wanting.
+    NoMemory,
+}
+
+impl From<clap::Error> for WordsFault {
+    ghost use Rattle.four_lattice.specs.declared.words.WordsFault.{WordsFault};
+
+    ghost from_gives = { λ e fault. fault ≡ WordsFault.Refused → kind_of e ≡ OutOfMemory → ⊥ };
+
+    fn from(error: clap::Error) -> WordsFault {
+        if error.kind() == ErrorKind::OutOfMemory {
+            WordsFault::NoMemory
+        } else {
+            WordsFault::Refused
+        }
+    }
+}
+
+impl From<AllocError> for WordsFault {
+    ghost use Rattle.four_lattice.specs.declared.words.WordsFault.{WordsFault};
+
+    ghost from_gives = { λ _ fault. fault ≡ WordsFault.NoMemory };
+
+    fn from(_error: AllocError) -> WordsFault {
+        WordsFault::NoMemory
+    }
+}
+
+/// The command that a word names.
+pub(crate) fn verb_of(word: &str) -> Option<Verb>
+    ensures { result ≡ verb_of word.now }
+{
+    match word {
+        "pairs" => Some(Verb::Pairs),
+        "dual" => Some(Verb::Dual),
+        "verify" => Some(Verb::Verify),
+        "check" => Some(Verb::Check),
+        _ => None,
+    }
 }
 
 /// Whether a word is plain: not empty, and without a `-` in front.
@@ -23,37 +90,164 @@ fn is_plain_word(word: &str) -> bool
     }
 }
 
-/// The job of one word.
-fn job_of_one(word: &str) -> Option<Job>
-    ensures { result ≡ job_of (word.now ∷ []) }
+/// Whether bytes are decimal digits.
+fn are_digits(bytes: &[u8]) -> bool
+    ensures { result ≡ list_all is_ascii_digit bytes.now }
 {
-    if word == "pairs" {
-        Some(Job::Pairs { output: None })
-    } else {
-        None
+    bytes.iter().all(|byte| byte.is_ascii_digit())
+}
+
+/// Whether a word is a number: at most ten decimal digits, the first of them no zero but in `0` itself.
+fn is_number_word(word: &str) -> bool
+    ensures { result ≡ is_number word.now }
+{
+    let digits = word.as_bytes();
+    match digits {
+        [] => false,
+        [first, rest @ ..] => {
+            are_digits(digits) && digits.len() <= 10 && (*first != b'0' || rest.is_empty())
+        }
     }
 }
 
-/// The job of two words.
-fn job_of_two(word: &str, file: &str) -> Option<Job>
-    ensures { result ≡ job_of (word.now ∷ file.now ∷ []) }
+/// Whether a word is an option of some command.
+fn is_option_word(word: &str) -> bool
+    ensures { result ≡ is_option word.now }
 {
-    if word == "verify" && is_plain_word(file) {
-        Some(Job::Verify)
-    } else if word == "check" && is_plain_word(file) {
-        Some(Job::Check)
-    } else {
-        None
+    word == "--output"
+}
+
+/// Whether words are all plain.
+fn are_plain_words(words: &[String]) -> bool
+    ensures { result ≡ list_all is_plain (map string_bytes words.now) }
+{
+    words.iter().all(|word| is_plain_word(word.as_str()))
+}
+
+/// Whether words are options, each before its number, and then plain words.
+fn are_spelled(words: &[String]) -> bool
+    ensures { result ≡ is_spelled (map string_bytes words.now) }
+{
+    let mut rest = words;
+    while let [name, value, after @ ..] = rest {
+        if !is_option_word(name.as_str()) {
+            return are_plain_words(rest);
+        }
+        if !is_number_word(value.as_str()) {
+            return false;
+        }
+        rest = after;
+    }
+    are_plain_words(rest)
+}
+
+/// A command that has no flags of its own and reads words from the first on.
+fn bare_command<'a>(alloc: Global, name: &'a str) -> Command<'a>
+    ensures { app_of result ≡ bare_app name.entry.now }
+{
+    Command::new(alloc, name)
+        .no_binary_name(true)
+        .disable_help_flag(true)
+        .disable_version_flag(true)
+}
+
+/// An option with a number from `least` to `most`.
+fn number_option<'a>(alloc: Global, name: &'a str, least: u32, most: u32) -> Arg<'a>
+    ensures rule { rule_of result ≡ number_rule (record { name = name.entry.now; least = least; most = most }) }
+    ensures local { result.global ≡ false }
+{
+    Arg::new(alloc, name).long(name).value_parser(value_parser!(u32).range(
+        i64::from(least)..=i64::from(most),
+    ))
+}
+
+/// `--output`, of 0 to 63.
+fn output_option<'a>(alloc: Global) -> Arg<'a>
+    ensures rule { rule_of result ≡ number_rule output_setting }
+    ensures local { result.global ≡ false }
+{
+    number_option(alloc, "output", 0, 63)
+}
+
+/// The file that a command wants.
+fn file_argument<'a>(alloc: Global) -> Arg<'a>
+    ensures rule { rule_of result ≡ file_rule }
+    ensures local { result.global ≡ false }
+{
+    Arg::new(alloc, "FILE").required(true)
+}
+
+/// The command that `clap` is to read the words by.
+fn command_of<'a>(alloc: Global, verb: Verb) -> Result<Command<'a>, AllocError>
+    ensures { IfOk result (λ command. app_of command ≡ row_app (verb_name verb) (row_of verb)) }
+{
+    match verb {
+        Verb::Pairs => bare_command(alloc, "pairs").arg(output_option(alloc)),
+        Verb::Dual => bare_command(alloc, "dual").arg(output_option(alloc)),
+        Verb::Verify => bare_command(alloc, "verify").arg(file_argument(alloc)),
+        Verb::Check => bare_command(alloc, "check").arg(file_argument(alloc)),
     }
 }
 
-/// The job that the words after the program's name ask for: None exactly where they are no command's.
-pub fn job_asked_for(words: &[String]) -> Option<Job>
-    ensures { result ≡ job_of (map string_bytes words.now) }
+/// What `clap` finds in words that are spelled as they are to be.
+fn matches_of<'a>(
+    alloc: Global,
+    verb: Verb,
+    words: &'a [String],
+) -> Result<ArgMatches<'a>, WordsFault>
+    requires { is_spelled (map string_bytes words.now) ≡ true }
+    ensures ok { IfOk result (λ matches. IsSomeAnd (given_of (row_of verb) [] (map string_bytes words.entry.now)) (λ given. Shows given matches)) }
+    ensures refused { result ≡ Err WordsFault.Refused → given_of (row_of verb) [] (map string_bytes words.entry.now) ≡ None }
 {
-    match words {
-        [word] => job_of_one(word.as_str()),
-        [word, file] => job_of_two(word.as_str(), file.as_str()),
-        _ => None,
+    let command = command_of(alloc, verb)?;
+    Ok(command.try_get_matches_from(words)?)
+}
+
+/// The number that was given for a name.
+fn number_found(matches: &ArgMatches<'_>, name: &str) -> Option<u32>
+    ensures { (given : Given) → Shows given matches.now → bytes_eq (codes "FILE") name.now ≡ false → result ≡ number_given name.now given }
+{
+    matches.get_one::<u32>(name)
+}
+
+/// The job of a command for which this was found.
+fn job_found(verb: Verb, matches: &ArgMatches<'_>) -> Job
+    ensures { (given : Given) → Shows given matches.now → result ≡ job_from verb given }
+{
+    match verb {
+        Verb::Pairs => Job::Pairs {
+            output: number_found(matches, "output"),
+        },
+        Verb::Dual => Job::Dual {
+            output: number_found(matches, "output"),
+        },
+        Verb::Verify => Job::Verify,
+        Verb::Check => Job::Check,
+    }
+}
+
+/// The job that a command and the words after it ask for.
+fn job_asked(alloc: Global, verb: Verb, words: &[String]) -> Result<Job, WordsFault>
+    ensures ok { IfOk result (λ job. option_map (job_from verb) (given_of (row_of verb) [] (map string_bytes words.now)) ≡ Some job) }
+    ensures refused { result ≡ Err WordsFault.Refused → given_of (row_of verb) [] (map string_bytes words.now) ≡ None }
+{
+    if !are_spelled(words) {
+        return Err(WordsFault::Refused);
+    }
+    let matches = matches_of(alloc, verb, words)?;
+    Ok(job_found(verb, &matches))
+}
+
+/// The job that the words after the program's name ask for: refused exactly where they are no command's.
+pub fn settings(alloc: Global, words: &[String]) -> Result<Job, WordsFault>
+    ensures ok { IfOk result (λ job. job_of (map string_bytes words.now) ≡ Some job) }
+    ensures refused { result ≡ Err WordsFault.Refused → job_of (map string_bytes words.now) ≡ None }
+{
+    let [name, rest @ ..] = words else {
+        return Err(WordsFault::Refused);
+    };
+    match verb_of(name.as_str()) {
+        Some(verb) => job_asked(alloc, verb, rest),
+        None => Err(WordsFault::Refused),
     }
 }

@@ -6,6 +6,8 @@ mod check;
 #[cfg(test)]
 mod devices;
 #[cfg(test)]
+mod dual;
+#[cfg(test)]
 mod lattices;
 #[cfg(test)]
 mod pairs;
@@ -15,3 +17,5 @@ mod paths;
 mod row;
 #[cfg(test)]
 mod verify;
+#[cfg(test)]
+mod words;

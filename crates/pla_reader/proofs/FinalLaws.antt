@@ -1,9 +1,9 @@
 -- What the lines of a text give in the end.
-use Rattle.std.proofs.Common.{◌≡◌, ℕ, suc, zero, length-append, ◌≤◌, true, false, ◌&&◌, List, [], ◌∷◌, length, Option, Some, None, refl, sym, ap, ◌∙◌, arith, subst}
+use Rattle.std.proofs.Common.{◌≡◌, ℕ, suc, zero, length-append, ◌≤◌, ◌<◌, true, false, ◌&&◌, List, [], ◌∷◌, length, Option, Some, None, refl, sym, ap, ◌∙◌, arith, subst}
 use Rattle.std.specs.Prelude.{All, is_some, unwrap_or, IfSome, MatchOption}
 use Rattle.std.proofs.lemmas.List.Elements.{All-nil, All-push}
 use Rattle.cube_core.specs.Members.{AreDisjoint}
-use Rattle.cube_core.specs.Function.{Function}
+use Rattle.cube_core.specs.Function.{Function, IsFunction}
 use Rattle.pla_reader.specs.declared.kind.Kind.{Kind}
 use Rattle.pla_reader.specs.declared.kind.Kind.TheVariants.{Fd}
 use Rattle.pla_reader.specs.declared.marked.Marked.{Marked}
@@ -13,7 +13,7 @@ use Rattle.pla_reader.specs.Says.{Said}
 use Rattle.pla_reader.specs.Given.{first_said, input_names_said, output_names_said, rows_of, inputs_of, outputs_of, are_given, kind_of_lines}
 use Rattle.pla_reader.specs.Sets.{sets_of, functions_to, function_of_sets}
 use Rattle.pla_reader.specs.Marking.{AreSets, AreFunctions, AreBelow, IsClash}
-use Rattle.pla_reader.proofs.SetsLaws.{AreBelow-AreSets}
+use Rattle.pla_reader.proofs.SetsLaws.{AreBelow-AreSets, AreBelow-sets_of, IsFunction-sets}
 use Rattle.pla_reader.specs.Parts.{IsPla}
 use Rattle.pla_reader.specs.State.{State, IsState, Keeps}
 use Rattle.pla_reader.specs.Reading.{said_in, names_or, Reads, IsEndRefused, IsConflict}
@@ -92,6 +92,14 @@ All-functions_to kind inputs rows (suc n) =
       All-push (λ f. f.inputs ≡ inputs) (functions_to kind inputs rows n) (function_of_sets kind inputs (sets_of kind inputs rows n)) before.1 refl,
     )
 
+All-IsFunction : (kind : Kind) (inputs : ℕ) (rows : List (List ℕ)) (n : ℕ) → 1 ≤ inputs → inputs ≤ 10
+    → ((k : ℕ) → k < n → AreDisjoint (sets_of kind inputs rows k).on (sets_of kind inputs rows k).off) → All IsFunction (functions_to kind inputs rows n)
+All-IsFunction kind inputs rows zero some few clear = All-nil IsFunction
+All-IsFunction kind inputs rows (suc n) some few clear =
+    All-push IsFunction (functions_to kind inputs rows n) (function_of_sets kind inputs (sets_of kind inputs rows n))
+    (All-IsFunction kind inputs rows n some few (λ k h. clear k (omega (arith, h))))
+    (IsFunction-sets kind inputs (sets_of kind inputs rows n) some few (AreBelow-sets_of kind inputs rows n) (clear n (omega arith)))
+
 length-names_or : (letter n : ℕ) (o : Option (List (List ℕ))) → IfSome o (λ names. length names ≡ n) → length (names_or letter n o) ≡ n
 length-names_or letter n None h = length-default_names letter n
 length-names_or letter n (Some names) h = h
@@ -116,6 +124,7 @@ IsPla-finished s n m place sets kind rows functions ins outs h inputs outputs ma
       output_names = ap length out_names ∙ length-names_or 102 m s.output_names (names_many s.outputs m s.output_names outputs h.output_names);
       functions = ap length fs.each ∙ all.0 ∙ many;
       each = subst (All (λ f. f.inputs ≡ n)) (sym fs.each) all.1;
+      kept = subst (All IsFunction) (sym fs.each) (All-IsFunction kind n rows sets ni.0 ni.1 fs.clear);
     }
 
 -- the sets, as they are lent

@@ -140,7 +140,7 @@ members_of_cube-allows inputs c digits same = set.same_set nat_cmp_total set.nat
 pub written_back : {X : Type 0} (items new : List X) (n : ℕ) → n ≡ length items → length new ≡ length items → take n (new ++ drop (length new) items) ≡ new
 written_back items new n many same = ap (λ k. take k (new ++ drop (length new) items)) (many ∙ sym same) ∙ take-append_seam new (drop (length new) items)
 
-AreBelow-sets_of : (kind : Kind) (inputs : ℕ) (rows : List (List ℕ)) (k : ℕ) → AreBelow inputs (sets_of kind inputs rows k)
+pub AreBelow-sets_of : (kind : Kind) (inputs : ℕ) (rows : List (List ℕ)) (k : ℕ) → AreBelow inputs (sets_of kind inputs rows k)
 unfolding sets_of
 AreBelow-sets_of kind inputs rows k = record {
   on = passing_below-AllBelow (λ x. list_any (row_names marks_on inputs k x) rows) (2 ^ inputs);
@@ -190,7 +190,7 @@ on_off_disjoint Fd inputs sets clear x one other =
 on_off_disjoint Fr inputs sets clear x one other = clear x (in_difference sets.on sets.free x one).0 other
 on_off_disjoint Fdr inputs sets clear x one other = clear x (in_difference sets.on sets.free x one).0 (in_difference sets.off sets.free x other).0
 
-IsFunction-sets : (kind : Kind) (inputs : ℕ) (sets : Marked) → 1 ≤ inputs → inputs ≤ 10 → AreBelow inputs sets → AreDisjoint sets.on sets.off → IsFunction (function_of_sets kind inputs sets)
+pub IsFunction-sets : (kind : Kind) (inputs : ℕ) (sets : Marked) → 1 ≤ inputs → inputs ≤ 10 → AreBelow inputs sets → AreDisjoint sets.on sets.off → IsFunction (function_of_sets kind inputs sets)
 IsFunction-sets kind inputs sets some few below clear = record {
   some = some;
   few = few;

@@ -1,6 +1,6 @@
 -- What reading a text gives.
 use Rattle.std.specs.Prelude.{◌≡◌, ℕ, ◌≤◌, List, length, map, All}
-use Rattle.cube_core.specs.Function.{Function}
+use Rattle.cube_core.specs.Function.{Function, IsFunction}
 use Rattle.pla_reader.specs.declared.pla.Pla.{Pla}
 use Rattle.pla_reader.specs.Names.{bytes_of}
 
@@ -23,7 +23,7 @@ parts_of pla = record {
   rest = pla.rest;
 }
 
--- There is a name for each input, and a name and a function of these inputs for each output.
+-- There is a name for each input, and a name and a function of these inputs for each output, on and off at no assignment both.
 pub record IsPla (parts : Parts) : Type 0 where
   pub some_inputs : 1 ≤ parts.inputs
   pub few_inputs : parts.inputs ≤ 10
@@ -33,3 +33,4 @@ pub record IsPla (parts : Parts) : Type 0 where
   pub output_names : length parts.output_names ≡ parts.outputs
   pub functions : length parts.functions ≡ parts.outputs
   pub each : All (λ f. f.inputs ≡ parts.inputs) parts.functions
+  pub kept : All IsFunction parts.functions

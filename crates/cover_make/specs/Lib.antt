@@ -1,0 +1,4 @@
+pub mod Literals
+pub mod Cubes
+pub mod Cover
+pub mod Tails
