@@ -5,7 +5,6 @@ ghost use Rattle.std.specs.List.{flat_map};
 ghost use Rattle.cube_core.specs.Cube.{Meet};
 ghost use Rattle.cube_core.specs.Function.{IsFunction};
 ghost use Rattle.cover_make.specs.Cover.{off_cover_of};
-ghost use Rattle.lattice_grid.specs.Control.{NamesBelow};
 ghost use Rattle.lattice_grid.specs.Lattice.{IsOver};
 ghost use Rattle.lattice_grid.specs.Pairs.{single};
 ghost use Rattle.lattice_grid.specs.Realise.{Realises};
@@ -17,6 +16,7 @@ use cube_core::spec::Spec;
 use cube_core::table::Table;
 use lattice_grid::control::Control;
 use lattice_grid::grid::Grid;
+use lattice_grid::pairs::single_cell;
 use lattice_grid::shape::Shape;
 use std::alloc::Global;
 use wire_io::fault::NoMemory;
@@ -62,17 +62,6 @@ fn rows(alloc: Global, ons: &[Cube], offs: &[Cube]) -> Result<Vec<Control>, NoMe
         push_row(&mut cells, ons, off)?;
     }
     Ok(cells)
-}
-
-/// A lattice of one cell.
-fn single_cell(alloc: Global, control: Control) -> Result<Grid, NoMemory>
-    requires { NamesBelow 10 control }
-    ensures { IfOk result (λ grid. grid ≡ single control) }
-{
-    let mut cells = Vec::new(alloc);
-    cells.push(control)?;
-    let shape = Shape::new(1, 1).unwrap();
-    Ok(Grid::new(shape, cells).unwrap())
 }
 
 /// The lattice of a column for each on cube and a row for each off cube.

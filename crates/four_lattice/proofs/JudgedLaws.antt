@@ -8,7 +8,7 @@ use Rattle.four_lattice.specs.declared.status.Ending.TheVariants.{Done, Words, P
 use Rattle.four_lattice.specs.declared.status.Status.{Status}
 use Rattle.four_lattice.specs.declared.status.Status.TheVariants as status
 use Rattle.four_lattice.specs.declared.words.Job.{Job}
-use Rattle.four_lattice.specs.declared.words.Job.TheVariants.{Pairs, Dual, Verify, Check}
+use Rattle.four_lattice.specs.declared.words.Job.TheVariants.{Pairs, Dual, Cnf as CnfJob, Verify, Check}
 
 words_only : (ending : Ending) → status_of ending ≡ status.Words → ending ≡ Words
 words_only Words e = refl
@@ -30,6 +30,7 @@ words_only (Unfinished line) e = absurd cc
 not_words : (job : Job) (d : Devices) → EndsSo (Some job) Words d → ⊥
 not_words (Pairs output) d ends = ends.0
 not_words (Dual output) d ends = ends.0
+not_words (CnfJob output size) d ends = ends.0
 not_words Verify d ends = elim ends [ inl h ↦ h.0 | inr h ↦ h.2 ]
 not_words Check d ends = elim ends [ inl h ↦ h.0 | inr h ↦ h.2 ]
 

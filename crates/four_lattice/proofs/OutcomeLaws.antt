@@ -1,6 +1,10 @@
 -- The told texts of a job come to one outcome.
 use Rattle.std.proofs.Common.{◌≡◌, ℕ, ◌<◌, ◌≤◌, inl, inr, List, length, sym, ap, ◌∙◌, subst, arith, true, Some, Ok, Err}
-use Rattle.std.specs.Prelude.{IfSome, codes}
+use Rattle.std.specs.Prelude.{IfSome, codes, slice_get, None}
+use Rattle.clause_core.specs.Cnf.{cnf_text}
+use Rattle.cube_core.specs.Function.{Function}
+use Rattle.lattice_grid.specs.Rectangle.{Size}
+use Rattle.reach_encoding.specs.Encoding.{encoding}
 use Rattle.std.specs.declared.option.Option.{Option}
 use Rattle.std.proofs.lemmas.Bool.{true≢false}
 use Rattle.clause_core.specs.Formula.{Formula}
@@ -20,7 +24,7 @@ use Rattle.report_text.specs.Report.{ReportParts, report_text}
 use Rattle.report_text.proofs.OneLaws.{one_answer}
 use Rattle.four_lattice.specs.Check.{IsFirstFault, IsAccepted, adds_empty, end_line}
 use Rattle.four_lattice.specs.Lattices.{IsThere, report_by}
-use Rattle.four_lattice.specs.Outcome.{Outcome, Stage, Last, PlaRefuses, PlaGives, CnfRefuses, CnfGives, LratRefuses, LratGives, ReportRefuses, ReportGives, LacksOutput, Denies, LinesRefuse, realised_text, LatticesOf, ComesTo}
+use Rattle.four_lattice.specs.Outcome.{Outcome, Stage, Last, PlaRefuses, PlaGives, CnfRefuses, CnfGives, LratRefuses, LratGives, ReportRefuses, ReportGives, LacksOutput, Denies, LinesRefuse, realised_text, LatticesOf, LacksFunction, IsDone, question_of, ComesTo}
 use Rattle.four_lattice.specs.Verified.{IsVerified}
 use Rattle.four_lattice.specs.declared.lattices.Construction.{Construction}
 use Rattle.four_lattice.specs.declared.status.Ending.{Ending}
@@ -188,6 +192,24 @@ lattices_once how output pla bytes t o p a b =
     stage_one Parts (PlaRefuses pla) (PlaGives pla) (λ parts. Last (LacksOutput output parts) (IsThere output parts.outputs) (report_text (report_by how output parts)))
     (one_pla_refusal pla bytes t) (no_pla pla bytes t) (one_pla pla bytes t)
     (λ parts. last_one (LacksOutput output parts) (IsThere output parts.outputs) (report_text (report_by how output parts)) (λ x y h k. h.1 ∙ sym k.1) (λ x h k. h.0 k))
+    o p a b
+
+-- the function of an output
+one_gone : (o : Option Function) (f : Function) → o ≡ None → o ≡ Some f → ⊥
+one_gone o f p q = cc
+
+one_there : (o : Option Function) (f g : Function) → o ≡ Some f → o ≡ Some g → f ≡ g
+one_there o f g p q = cc
+
+pub encoding_once : (output : ℕ) (size : Size) (pla side : Option (List ℕ)) (bytes : List ℕ) → pla ≡ Some bytes → (o p : Outcome)
+    → ComesTo (jobs.Cnf output size) pla side o → ComesTo (jobs.Cnf output size) pla side p → o ≡ p
+encoding_once output size pla side bytes t o p a b =
+    stage_one Parts (PlaRefuses pla) (PlaGives pla)
+    (λ parts. Stage Function (LacksFunction output parts) (λ f. slice_get parts.functions output ≡ Some f) (λ f. IsDone (cnf_text (encoding (question_of size f)))))
+    (one_pla_refusal pla bytes t) (no_pla pla bytes t) (one_pla pla bytes t)
+    (λ parts. stage_one Function (LacksFunction output parts) (λ f. slice_get parts.functions output ≡ Some f) (λ f. IsDone (cnf_text (encoding (question_of size f))))
+    (λ x y h k. h.1 ∙ sym k.1) (λ x f h k. one_gone _ f h.0 k) (λ f g h k. one_there _ f g h k)
+    (λ f x y h k. same_outcome x y (h.0 ∙ sym k.0) (h.1 ∙ sym k.1)))
     o p a b
 
 pub verify_once : (pla side : Option (List ℕ)) (bytes text : List ℕ) → pla ≡ Some bytes → side ≡ Some text → (o p : Outcome)

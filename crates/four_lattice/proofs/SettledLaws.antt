@@ -5,19 +5,22 @@ use Rattle.wire_io.specs.Causes.{Device, Rose}
 use Rattle.wire_io.specs.Laws.{Gains-none}
 use Rattle.wire_io.specs.Told.{Gains}
 use Rattle.std.specs.Prelude.{codes}
+use Rattle.clause_core.specs.Cnf.{cnf_text}
+use Rattle.lattice_grid.specs.Rectangle.{Size}
+use Rattle.reach_encoding.specs.Encoding.{encoding}
 use Rattle.report_text.specs.Report.{report_text}
 use Rattle.four_lattice.specs.Ending.{status_of, note_text}
 use Rattle.four_lattice.specs.Lattices.{report_by}
-use Rattle.four_lattice.specs.Outcome.{Outcome, LatticesOf, realised_text, ComesTo}
-use Rattle.four_lattice.specs.Run.{Devices, EndsLattices, EndsVerify, EndsCheck, EndsSo, IsNoted, Answers, AreTold, InputFails, IsSettled, Settles}
+use Rattle.four_lattice.specs.Outcome.{Outcome, LatticesOf, realised_text, question_of, ComesTo}
+use Rattle.four_lattice.specs.Run.{Devices, EndsLattices, EndsEncoding, EndsVerify, EndsCheck, EndsSo, IsNoted, Answers, AreTold, InputFails, IsSettled, Settles}
 use Rattle.four_lattice.specs.declared.lattices.Construction.{Construction}
 use Rattle.four_lattice.specs.declared.lattices.Construction.TheVariants as construction
 use Rattle.four_lattice.specs.declared.status.Ending.{Ending}
 use Rattle.four_lattice.specs.declared.status.Ending.TheVariants.{Done, Words, Pla, NoSuchOutput, Cnf, ReadFault, WriteFault, NoMemory, SideTooLong, Report, Lrat, Denied, Step, Unfinished}
 use Rattle.four_lattice.specs.declared.status.Status.{Status}
 use Rattle.four_lattice.specs.declared.words.Job.{Job}
-use Rattle.four_lattice.specs.declared.words.Job.TheVariants.{Pairs, Dual, Verify, Check}
-use Rattle.four_lattice.proofs.OutcomeLaws.{lattices_once, verify_once, check_once}
+use Rattle.four_lattice.specs.declared.words.Job.TheVariants.{Pairs, Dual, Cnf as CnfJob, Verify, Check}
+use Rattle.four_lattice.proofs.OutcomeLaws.{lattices_once, encoding_once, verify_once, check_once}
 
 -- what the output got, and the note, after the run
 pub record Shows (result : Status) (d : Devices) (notes notes' : Device) (outcome : Outcome) : Type 0 where
@@ -68,6 +71,36 @@ lattices_settle how output (Lrat refusal) result d notes notes' ends is noted by
 lattices_settle how output (Denied refusal) result d notes notes' ends is noted bytes t outcome comes = absurd ends.0
 lattices_settle how output (Step fault line) result d notes notes' ends is noted bytes t outcome comes = absurd ends.0
 lattices_settle how output (Unfinished line) result d notes notes' ends is noted bytes t outcome comes = absurd ends.0
+
+-- `cnf`
+pub encoding_settle : (output : ℕ) (size : Size) (ending : Ending) (result : Status) (d : Devices) (notes notes' : Device) → EndsEncoding output size ending d
+    → result ≡ status_of ending → IsNoted notes notes' (note_text ending) → (bytes : List ℕ) → d.pla.told ≡ Some bytes → (outcome : Outcome)
+    → ComesTo (CnfJob output size) d.pla.told d.side.told outcome → IsSettled (Rose d.pla.faults d.pla'.faults) outcome result d notes notes'
+encoding_settle output size Done result d notes notes' ends is noted bytes t outcome comes =
+    settled_as (Rose d.pla.faults d.pla'.faults) result d notes notes' (record { ending = Done; text = cnf_text (encoding (question_of size ends.0.function)) }) outcome
+    (encoding_once output size d.pla.told d.side.told bytes t (record { ending = Done; text = cnf_text (encoding (question_of size ends.0.function)) }) outcome (inr (ends.0.parts, ends.0.gives, inr (ends.0.function, ends.0.there, (refl, refl)))) comes)
+    (record { is = is; text = ends.0.gained; noted = noted })
+encoding_settle output size Words result d notes notes' ends is noted bytes t outcome comes = absurd ends.0
+encoding_settle output size (Pla refusal) result d notes notes' ends is noted bytes t outcome comes =
+    settled_as (Rose d.pla.faults d.pla'.faults) result d notes notes' (record { ending = Pla refusal; text = [] }) outcome
+    (encoding_once output size d.pla.told d.side.told bytes t (record { ending = Pla refusal; text = [] }) outcome (inl ((refusal, ends.0.1, refl), refl)) comes)
+    (refused_as (Pla refusal) result d notes notes' is ends.2 noted)
+encoding_settle output size NoSuchOutput result d notes notes' ends is noted bytes t outcome comes =
+    settled_as (Rose d.pla.faults d.pla'.faults) result d notes notes' (record { ending = NoSuchOutput; text = [] }) outcome
+    (encoding_once output size d.pla.told d.side.told bytes t (record { ending = NoSuchOutput; text = [] }) outcome (inr (ends.0.parts, ends.0.gives, inl ((ends.0.lacks, refl), refl))) comes)
+    (refused_as NoSuchOutput result d notes notes' is ends.3 noted)
+encoding_settle output size (Cnf refusal) result d notes notes' ends is noted bytes t outcome comes = absurd ends.0
+encoding_settle output size ReadFault result d notes notes' ends is noted bytes t outcome comes = inr (inl (is, ends.0.0))
+encoding_settle output size WriteFault result d notes notes' ends is noted bytes t outcome comes =
+    let same = encoding_once output size d.pla.told d.side.told bytes t (record { ending = Done; text = cnf_text (encoding (question_of size ends.1.function)) }) outcome (inr (ends.1.parts, ends.1.gives, inr (ends.1.function, ends.1.there, (refl, refl)))) comes in
+    inr (inr (inl (is, sym (ap (λ o. o.ending) same), ends.0)))
+encoding_settle output size NoMemory result d notes notes' ends is noted bytes t outcome comes = inl is
+encoding_settle output size SideTooLong result d notes notes' ends is noted bytes t outcome comes = absurd ends.0
+encoding_settle output size (Report refusal) result d notes notes' ends is noted bytes t outcome comes = absurd ends.0
+encoding_settle output size (Lrat refusal) result d notes notes' ends is noted bytes t outcome comes = absurd ends.0
+encoding_settle output size (Denied refusal) result d notes notes' ends is noted bytes t outcome comes = absurd ends.0
+encoding_settle output size (Step fault line) result d notes notes' ends is noted bytes t outcome comes = absurd ends.0
+encoding_settle output size (Unfinished line) result d notes notes' ends is noted bytes t outcome comes = absurd ends.0
 
 -- `verify`
 pub verify_settle : (ending : Ending) (result : Status) (d : Devices) (notes notes' : Device) → EndsVerify ending d → result ≡ status_of ending → IsNoted notes notes' (note_text ending)
@@ -141,6 +174,7 @@ job_settles : (job : Job) (ending : Ending) (result : Status) (d : Devices) (not
     → AreTold job d → (outcome : Outcome) → ComesTo job d.pla.told d.side.told outcome → IsSettled (InputFails job d) outcome result d notes notes'
 job_settles (Pairs output) ending result d notes notes' ends is noted told outcome comes = lattices_settle construction.Pairs output ending result d notes notes' ends is noted told.0 told.1 outcome comes
 job_settles (Dual output) ending result d notes notes' ends is noted told outcome comes = lattices_settle construction.Dual output ending result d notes notes' ends is noted told.0 told.1 outcome comes
+job_settles (CnfJob output size) ending result d notes notes' ends is noted told outcome comes = encoding_settle output size ending result d notes notes' ends is noted told.0 told.1 outcome comes
 job_settles Verify ending result d notes notes' ends is noted told outcome comes = verify_settle ending result d notes notes' ends is noted told.0 told.1 told.2 told.3 outcome comes
 job_settles Check ending result d notes notes' ends is noted told outcome comes = check_settle ending result d notes notes' ends is noted told.0 told.1 told.2 told.3 outcome comes
 

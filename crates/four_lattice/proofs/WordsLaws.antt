@@ -1,5 +1,5 @@
 -- What the reading of words rests on beside `clap`.
-use Rattle.std.proofs.Common.{◌≡◌, ◌∙◌, ℕ, ◌<◌, ◌^◌, ◌&&◌, Bool, cond, true, false, not, refl, sym, ap, subst, arith, List, [], ◌∷◌, ◌++◌, length, map, Option, Some, None, Ok, Err, Result, option_map, codes}
+use Rattle.std.proofs.Common.{option_and_then, ◌≡◌, ◌∙◌, ℕ, ◌<◌, ◌^◌, ◌&&◌, Bool, cond, true, false, not, refl, sym, ap, subst, arith, List, [], ◌∷◌, ◌++◌, length, map, Option, Some, None, Ok, Err, Result, option_map, codes}
 use Rattle.std.specs.Prelude.{find, is_none, nat_lt, drop, IsSomeAnd}
 use Rattle.std.specs.Str.{bytes_eq}
 use Rattle.std.specs.Str.Parse.{ParsesUnsigned, digits_value}
@@ -10,7 +10,7 @@ use Rattle.std.proofs.lemmas.Slice.Eq.{bytes_eq-Decides}
 use Rattle.clap.specs.Matches.{ReadsOne, found_of, one_text}
 use Rattle.clap.specs.declared.parser.matches.ArgMatches.{ArgMatches}
 use Rattle.four_lattice.specs.declared.words.Verb.{Verb}
-use Rattle.four_lattice.specs.declared.words.Verb.TheVariants.{Pairs, Dual, Verify, Check}
+use Rattle.four_lattice.specs.declared.words.Verb.TheVariants.{Pairs, Dual, Cnf, Verify, Check}
 use Rattle.four_lattice.specs.Words.{Given, Row, Setting, is_within, given_of, row_of, is_number, is_plain, may_give, number_given}
 use Rattle.four_lattice.specs.WordsParts.{Shows, is_option, is_small, is_spelled, is_table, option_names}
 use Rattle.four_lattice.proofs.WordsNumbers.{all_digits, number_digits, number_plain_sign}
@@ -115,6 +115,7 @@ few_spelled f (x ∷ y ∷ xs) few = absurd (omega arith)
 pub row_is_table : (verb : Verb) → is_table (row_of verb) ≡ true
 row_is_table Pairs = refl
 row_is_table Dual = refl
+row_is_table Cnf = refl
 row_is_table Verify = refl
 row_is_table Check = refl
 
@@ -122,3 +123,8 @@ row_is_table Check = refl
 pub shown-all : {X Y : Type 0} (o : Option X) (P : X → Type 0) (f : X → Y) (y : Y) → IsSomeAnd o P → ((x : X) → P x → y ≡ f x) → option_map f o ≡ Some y
 shown-all None P f y some all = absurd some
 shown-all (Some x) P f y some all = ap (λ z. Some z) (sym (all x some))
+
+-- what is answered of something that was given is answered of what was given
+pub shown-then : {X Y : Type 0} (o : Option X) (P : X → Type 0) (f : X → Option Y) (r : Option Y) → IsSomeAnd o P → ((x : X) → P x → r ≡ f x) → option_and_then f o ≡ r
+shown-then None P f r some all = absurd some
+shown-then (Some x) P f r some all = sym (all x some)

@@ -1,9 +1,13 @@
 -- What the texts of a command come to, where nothing fails and memory suffices.
-use Rattle.std.specs.Prelude.{◌≡◌, ◌⊎◌, ℕ, ◌<◌, ◌≤◌, true, false, List, [], ◌++◌, length, codes, IfSome, Ok, Err}
+use Rattle.std.specs.Prelude.{◌≡◌, ◌⊎◌, ℕ, ◌<◌, ◌≤◌, true, false, List, [], ◌++◌, length, codes, IfSome, Ok, Err, Some, None, slice_get}
 use Rattle.std.specs.Fmt.{decimal}
 use Rattle.std.specs.declared.option.Option.{Option}
 use Rattle.clause_core.specs.Formula.{Formula}
+use Rattle.clause_core.specs.Cnf.{cnf_text}
 use Rattle.clause_core.specs.CnfRead.{cnf_of}
+use Rattle.cube_core.specs.Function.{Function}
+use Rattle.lattice_grid.specs.Rectangle.{Size}
+use Rattle.reach_encoding.specs.Encoding.{Question, encoding}
 use Rattle.clause_core.specs.declared.refusal.CnfRefusal.{CnfRefusal}
 use Rattle.lrat_replay.specs.declared.fault.StepFault.{StepFault}
 use Rattle.lrat_replay.specs.declared.line.Line.{Line}
@@ -25,7 +29,7 @@ use Rattle.four_lattice.specs.declared.status.Ending.{Ending}
 use Rattle.four_lattice.specs.declared.status.Ending.TheVariants.{Done, Pla, NoSuchOutput, Cnf, SideTooLong, Report, Lrat, Denied, Step, Unfinished}
 use Rattle.four_lattice.specs.declared.verify.VerifyRefusal.{VerifyRefusal}
 use Rattle.four_lattice.specs.declared.words.Job.{Job}
-use Rattle.four_lattice.specs.declared.words.Job.TheVariants.{Pairs, Dual, Verify, Check}
+use Rattle.four_lattice.specs.declared.words.Job.TheVariants.{Pairs, Dual, Cnf as CnfJob, Verify, Check}
 
 -- how a run ends, and the text that it writes
 pub record Outcome : Type 0 where
@@ -96,10 +100,26 @@ LatticesOf how output pla =
     Stage Parts (PlaRefuses pla) (PlaGives pla) (λ parts.
     Last (LacksOutput output parts) (IsThere output parts.outputs) (report_text (report_by how output parts)))
 
+-- the PLA has not the output
+abbrev pub LacksFunction : ℕ → Parts → Ending → Type 0
+LacksFunction output parts ending = (slice_get parts.functions output ≡ None) × (ending ≡ NoSuchOutput)
+
+-- what is asked of a size and a function, on no array
+abbrev pub question_of : Size → Function → Question
+question_of size f = record { function = f; size = size; array = None }
+
+-- The work is done with this text.
+abbrev pub IsDone : List ℕ → Outcome → Type 0
+IsDone text outcome = (outcome.ending ≡ Done) × (outcome.text ≡ text)
+
 -- What the texts of a job come to: that of the PLA or the formula first, then that of the side file.
 abbrev pub ComesTo : Job → Option (List ℕ) → Option (List ℕ) → Outcome → Type 0
 ComesTo (Pairs output) pla side = LatticesOf construction.Pairs output pla
 ComesTo (Dual output) pla side = LatticesOf construction.Dual output pla
+ComesTo (CnfJob output size) pla side =
+    Stage Parts (PlaRefuses pla) (PlaGives pla) (λ parts.
+    Stage Function (LacksFunction output parts) (λ f. slice_get parts.functions output ≡ Some f) (λ f.
+    IsDone (cnf_text (encoding (question_of size f)))))
 ComesTo Verify pla side =
     Stage Parts (PlaRefuses pla) (PlaGives pla) (λ parts.
     Stage ReportParts (ReportRefuses side) (ReportGives side) (λ report.

@@ -1,8 +1,12 @@
 -- What a run answers.
-use Rattle.std.specs.Prelude.{◌≡◌, ℕ, ◌≤◌, ◌⊎◌, true, false, List, map, codes, string_bytes, String, Some, None, IfSome}
+use Rattle.std.specs.Prelude.{◌≡◌, ℕ, ◌≤◌, ◌⊎◌, true, false, List, map, codes, string_bytes, String, Some, None, IfSome, slice_get}
 use Rattle.std.specs.Global.{Global}
 use Rattle.std.specs.declared.option.Option.{Option}
+use Rattle.clause_core.specs.Cnf.{cnf_text}
 use Rattle.clause_core.specs.Formula.{Formula}
+use Rattle.cube_core.specs.Function.{Function}
+use Rattle.lattice_grid.specs.Rectangle.{Size}
+use Rattle.reach_encoding.specs.Encoding.{encoding}
 use Rattle.lrat_replay.specs.declared.line.Line.{Line}
 use Rattle.lrat_replay.specs.Book.{start}
 use Rattle.wire_io.specs.Causes.{Device, Rose}
@@ -13,13 +17,13 @@ use Rattle.four_lattice.specs.Check.{IsAccepted, IsFirstFault, adds_empty, end_l
 use Rattle.four_lattice.specs.Ending.{status_of, note_text}
 use Rattle.four_lattice.specs.Inputs.{EndsPla, EndsCnf, EndsLrat, EndsReport}
 use Rattle.four_lattice.specs.Lattices.{IsThere, report_by}
-use Rattle.four_lattice.specs.Outcome.{Outcome, PlaGives, CnfGives, LratGives, ReportGives, realised_text, ComesTo}
+use Rattle.four_lattice.specs.Outcome.{Outcome, PlaGives, CnfGives, LratGives, ReportGives, realised_text, question_of, ComesTo}
 use Rattle.four_lattice.specs.Verified.{IsVerified, IsDenied}
 use Rattle.four_lattice.specs.Words.{job_of}
 use Rattle.four_lattice.specs.declared.lattices.Construction.{Construction}
 use Rattle.four_lattice.specs.declared.lattices.Construction.TheVariants as construction
 use Rattle.four_lattice.specs.declared.words.Job.{Job}
-use Rattle.four_lattice.specs.declared.words.Job.TheVariants.{Pairs, Dual, Verify, Check}
+use Rattle.four_lattice.specs.declared.words.Job.TheVariants.{Pairs, Dual, Cnf, Verify, Check}
 use Rattle.four_lattice.specs.declared.status.Status.{Status}
 use Rattle.four_lattice.specs.declared.status.Status.TheVariants as status
 use Rattle.four_lattice.specs.declared.status.Ending.{Ending}
@@ -59,6 +63,28 @@ EndsLattices how output WriteFault d = Rose d.out.faults d.out'.faults × Report
 EndsLattices how output NoMemory d = ((d.out' ≡ d.out) ⊎ Reports how output d GainsFront) × (d.side' ≡ d.side)
 EndsLattices how output NoSuchOutput d = HasNoOutput output d × IsSpent d.pla'.told × (d.side' ≡ d.side) × (d.out' ≡ d.out)
 EndsLattices how output ending d = EndsPla ending d.pla d.pla' × (d.side' ≡ d.side) × (d.out' ≡ d.out)
+
+-- The PLA has the output, and the sink gained the text of the formula of this size for it, or a front of it.
+pub record Encodes (output : ℕ) (size : Size) (d : Devices) (Takes : Option (List ℕ) → Option (List ℕ) → List ℕ → Type 0) : Type 0 where
+  pub parts : Parts
+  pub function : Function
+  pub gives : PlaGives d.pla.told parts
+  pub there : slice_get parts.functions output ≡ Some function
+  pub gained : Takes d.out.told d.out'.told (cnf_text (encoding (question_of size function)))
+
+-- The PLA has not the output.
+pub record HasNoFunction (output : ℕ) (d : Devices) : Type 0 where
+  pub parts : Parts
+  pub gives : PlaGives d.pla.told parts
+  pub lacks : slice_get parts.functions output ≡ None
+
+-- How `cnf` ends. The side is not called; nothing is written before the PLA is read.
+abbrev pub EndsEncoding : ℕ → Size → Ending → Devices → Type 0
+EndsEncoding output size Done d = Encodes output size d Gains × IsSpent d.pla'.told × (d.side' ≡ d.side)
+EndsEncoding output size WriteFault d = Rose d.out.faults d.out'.faults × Encodes output size d GainsFront × IsSpent d.pla'.told × (d.side' ≡ d.side)
+EndsEncoding output size NoMemory d = ((d.out' ≡ d.out) ⊎ Encodes output size d GainsFront) × (d.side' ≡ d.side)
+EndsEncoding output size NoSuchOutput d = HasNoFunction output d × IsSpent d.pla'.told × (d.side' ≡ d.side) × (d.out' ≡ d.out)
+EndsEncoding output size ending d = EndsPla ending d.pla d.pla' × (d.side' ≡ d.side) × (d.out' ≡ d.out)
 
 -- Both are read to their ends.
 abbrev pub AreSpent : Devices → Type 0
@@ -125,6 +151,7 @@ abbrev pub EndsSo : Option Job → Ending → Devices → Type 0
 EndsSo None ending d = ((ending ≡ Words) ⊎ (ending ≡ NoMemory)) × IsUntouched d
 EndsSo (Some (Pairs output)) ending d = EndsLattices construction.Pairs output ending d
 EndsSo (Some (Dual output)) ending d = EndsLattices construction.Dual output ending d
+EndsSo (Some (Cnf output size)) ending d = EndsEncoding output size ending d
 EndsSo (Some Verify) ending d = EndsVerify ending d
 EndsSo (Some Check) ending d = EndsCheck ending d
 
@@ -152,12 +179,14 @@ pub record Answers (job : Option Job) (result : Status) (d : Devices) (notes not
 abbrev pub AreTold : Job → Devices → Type 0
 AreTold (Pairs output) d = (pla : List ℕ) × (d.pla.told ≡ Some pla)
 AreTold (Dual output) d = (pla : List ℕ) × (d.pla.told ≡ Some pla)
+AreTold (Cnf output size) d = (pla : List ℕ) × (d.pla.told ≡ Some pla)
 AreTold job d = (pla : List ℕ) × (side : List ℕ) × (d.pla.told ≡ Some pla) × (d.side.told ≡ Some side)
 
 -- An input that the job calls failed.
 abbrev pub InputFails : Job → Devices → Type 0
 InputFails (Pairs output) d = Rose d.pla.faults d.pla'.faults
 InputFails (Dual output) d = Rose d.pla.faults d.pla'.faults
+InputFails (Cnf output size) d = Rose d.pla.faults d.pla'.faults
 InputFails job d = Rose d.pla.faults d.pla'.faults ⊎ Rose d.side.faults d.side'.faults
 
 -- Memory was wanting; an input failed; the output failed, where there was something to write; or the run ended as it was to,

@@ -1,14 +1,15 @@
 -- What the words of the command line ask for. A word is its bytes.
-use Rattle.std.specs.Prelude.{ℕ, ◌==◌, ◌&&◌, ◌||◌, ◌++◌, Bool, true, false, not, List, [], ◌∷◌, length, drop, codes, Option, Some, None, is_none, find, option_and_then, option_map, nat_le, if◌then◌else◌}
+use Rattle.std.specs.Prelude.{ℕ, ◌==◌, ◌&&◌, ◌||◌, ◌++◌, Bool, true, false, not, List, [], ◌∷◌, length, drop, codes, Option, Some, None, is_none, find, option_and_then, option_map, unwrap_or, nat_le, ◌≤◌, if◌then◌else◌}
 use Rattle.std.specs.List.{list_all}
 use Rattle.std.specs.Option.{option_map_or}
 use Rattle.std.specs.Char.{is_ascii_digit}
 use Rattle.std.specs.Str.{bytes_eq}
+use Rattle.lattice_grid.specs.Rectangle.{Size}
 use Rattle.std.specs.Str.Parse.{digits_value}
 use Rattle.four_lattice.specs.declared.words.Job.{Job}
 use Rattle.four_lattice.specs.declared.words.Job.TheVariants as job
 use Rattle.four_lattice.specs.declared.words.Verb.{Verb}
-use Rattle.four_lattice.specs.declared.words.Verb.TheVariants.{Pairs, Dual, Verify, Check}
+use Rattle.four_lattice.specs.declared.words.Verb.TheVariants.{Pairs, Dual, Cnf, Verify, Check}
 
 -- a plain word is not empty, and does not begin with `-`
 abbrev pub is_plain : List ℕ → Bool
@@ -35,10 +36,18 @@ pub record Row : Type 0 where
 abbrev pub output_setting : Setting
 output_setting = record { name = codes "output"; least = 0; most = 63 }
 
+-- `--rows` and `--cols`, of 1 to 16
+abbrev pub rows_setting : Setting
+rows_setting = record { name = codes "rows"; least = 1; most = 16 }
+
+abbrev pub cols_setting : Setting
+cols_setting = record { name = codes "cols"; least = 1; most = 16 }
+
 -- the table of commands
 abbrev pub row_of : Verb → Row
 row_of Pairs = record { options = output_setting ∷ []; wants_file = false }
 row_of Dual = record { options = output_setting ∷ []; wants_file = false }
+row_of Cnf = record { options = rows_setting ∷ cols_setting ∷ output_setting ∷ []; wants_file = false }
 row_of Verify = record { options = []; wants_file = true }
 row_of Check = record { options = []; wants_file = true }
 
@@ -47,9 +56,10 @@ abbrev pub verb_of : List ℕ → Option Verb
 verb_of word =
     if bytes_eq word (codes "pairs") then Some Pairs
     else (if bytes_eq word (codes "dual") then Some Dual
+    else (if bytes_eq word (codes "cnf") then Some Cnf
     else (if bytes_eq word (codes "verify") then Some Verify
     else (if bytes_eq word (codes "check") then Some Check
-    else None)))
+    else None))))
 
 -- options that were given, each a name with its number
 abbrev pub Given : Type 0
@@ -75,14 +85,31 @@ given_of row given [] = if row.wants_file then None else Some given
 given_of row given (word ∷ []) = if row.wants_file && is_plain word then Some given else None
 given_of row given (word ∷ next ∷ rest) = if may_give row given word next then given_of row (given ++ (drop 2 word, digits_value 10 next) ∷ []) rest else None
 
--- the job of a command for which this is given
-abbrev pub job_from : Verb → Given → Job
-job_from Pairs given = job.Pairs (number_given (codes "output") given)
-job_from Dual given = job.Dual (number_given (codes "output") given)
-job_from Verify given = job.Verify
-job_from Check given = job.Check
+-- a side of a shape has 1 to 16 cells
+abbrev pub is_side : ℕ → Bool
+is_side n = nat_le 1 n && nat_le n 16
+
+-- the size of so many rows and columns, where both are given
+abbrev pub size_given : Option ℕ → Option ℕ → Option Size
+size_given None cols = None
+size_given (Some rows) None = None
+size_given (Some rows) (Some cols) = if is_side rows && is_side cols then Some (record { rows = rows; cols = cols }) else None
+
+-- the job of a command for which this is given; `cnf` needs rows and columns, and takes output 0 where none is given
+abbrev pub job_from : Verb → Given → Option Job
+job_from Pairs given = Some (job.Pairs (number_given (codes "output") given))
+job_from Dual given = Some (job.Dual (number_given (codes "output") given))
+job_from Cnf given =
+    option_map (job.Cnf (unwrap_or (number_given (codes "output") given) 0)) (size_given (number_given (codes "rows") given) (number_given (codes "cols") given))
+job_from Verify given = Some job.Verify
+job_from Check given = Some job.Check
 
 -- the job of a list of words, of which the first is the command
 abbrev pub job_of : List (List ℕ) → Option Job
 job_of [] = None
-job_of (word ∷ words) = option_and_then (λ verb. option_map (job_from verb) (given_of (row_of verb) [] words)) (verb_of word)
+job_of (word ∷ words) = option_and_then (λ verb. option_and_then (job_from verb) (given_of (row_of verb) [] words)) (verb_of word)
+
+-- The shape of a job, if it has one, has at most sixteen rows and columns.
+abbrev pub HasSmallShape : Job → Type 0
+HasSmallShape (job.Cnf output size) = (size.rows ≤ 16) × (size.cols ≤ 16)
+HasSmallShape _ = Unit {0}

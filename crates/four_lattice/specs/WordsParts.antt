@@ -7,12 +7,12 @@ use Rattle.clap.specs.Words.{App, Rule, new_app, new_rule, found_of, one_text}
 use Rattle.clap.specs.declared.builder.value_parser.ValueParser.TheVariants as vp
 use Rattle.clap.specs.declared.parser.matches.ArgMatches.{ArgMatches}
 use Rattle.four_lattice.specs.declared.words.Verb.{Verb}
-use Rattle.four_lattice.specs.declared.words.Verb.TheVariants.{Pairs, Dual, Verify, Check}
+use Rattle.four_lattice.specs.declared.words.Verb.TheVariants.{Pairs, Dual, Cnf, Verify, Check}
 use Rattle.four_lattice.specs.Words.{Row, Setting, Given, is_number, is_plain, number_given}
 
 -- the names of all options
 abbrev pub option_names : List (List ℕ)
-option_names = codes "output" ∷ []
+option_names = codes "output" ∷ codes "rows" ∷ codes "cols" ∷ []
 
 -- the word is `--` and a name
 abbrev pub is_option : List ℕ → Bool
@@ -38,6 +38,7 @@ bare_app name = record (new_app name) { top = record (new_app name).top { no_bin
 abbrev pub verb_name : Verb → List ℕ
 verb_name Pairs = codes "pairs"
 verb_name Dual = codes "dual"
+verb_name Cnf = codes "cnf"
 verb_name Verify = codes "verify"
 verb_name Check = codes "check"
 

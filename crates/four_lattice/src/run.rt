@@ -1,13 +1,17 @@
 //! The top call.
-ghost use Rattle.std.specs.Prelude.{◌≡◌, ◌≢◌, ℕ, ◌≤◌, ◌+◌, ◌++◌, ◌⊎◌, ◌↔◌, true, codes, decimal, length, IfOk, OnOk, IfErr, Some, None};
+ghost use Rattle.std.specs.Prelude.{◌≡◌, ◌≢◌, ℕ, ◌≤◌, ◌*◌, ◌+◌, ◌++◌, ◌⊎◌, ◌↔◌, true, codes, decimal, length, IfOk, OnOk, IfErr, Some, None};
 ghost use Rattle.wire_io.specs.Causes.{HasCause};
 ghost use Rattle.wire_io.specs.Told.{Gains, GainsFront};
 ghost use Rattle.four_lattice.specs.Check.{EndsLines, IsAccepted, adds_empty};
-ghost use Rattle.four_lattice.specs.Outcome.{Outcome, ComesTo};
+ghost use Rattle.four_lattice.specs.Outcome.{Outcome, ComesTo, question_of};
 ghost use Rattle.pla_reader.specs.Parts.{parts_of, IsPla};
 ghost use Rattle.report_text.specs.Report.{parts_of_report};
 ghost use Rattle.four_lattice.specs.Verified.{IsVerified, EndsReportTest};
-ghost use Rattle.four_lattice.specs.Run.{job_asked, EndsLattices, EndsVerify, EndsCheck, EndsSo, Answers, AreJudged, Settles};
+ghost use Rattle.clause_core.specs.Cnf.{cnf_text};
+ghost use Rattle.reach_encoding.specs.Encoding.{encoding};
+ghost use Rattle.four_lattice.specs.Lattices.{IsWriteCause};
+ghost use Rattle.four_lattice.specs.Words.{HasSmallShape};
+ghost use Rattle.four_lattice.specs.Run.{job_asked, EndsLattices, EndsEncoding, EndsVerify, EndsCheck, EndsSo, Answers, AreJudged, Settles};
 
 use crate::check::{Replayed, replay_lines};
 use crate::inputs::{Proof, input_cnf, input_pla, input_proof, input_report};
@@ -16,9 +20,13 @@ use crate::status::{Ending, Status, write_note};
 use crate::verify::{VerifyRefusal, verify};
 use crate::words::{Job, WordsFault, settings};
 use clause_core::formula::Formula;
+use clause_core::write::write_cnf;
+use cube_core::spec::Spec;
 use itoa::Buffer;
+use lattice_grid::shape::Shape;
 use lrat_replay::replay::Replay;
 use pla_reader::pla::Pla;
+use reach_encoding::encode::encode;
 use report_text::answer::Report;
 use std::alloc::Global;
 use wire_io::fault::Failed;
@@ -55,6 +63,61 @@ fn end_of_lattices<S: Source, K: Sink>(
         return Ending::NoSuchOutput;
     }
     match write_lattices(alloc, out, how, output, &text) {
+        Ok(()) => Ending::Done,
+        Err(WorkFault::Write) => Ending::WriteFault,
+        Err(WorkFault::NoMemory) => Ending::NoMemory,
+    }
+}
+
+/// Writes the formula of a shape for a function.
+fn write_encoding<K: Sink>(
+    alloc: Global,
+    out: &mut K,
+    spec: &Spec,
+    shape: Shape,
+) -> Result<(), WorkFault>
+    requires { shape.rows * shape.cols ≤ 32768 }
+    ensures ok { OnOk result (Gains (K.got out.old) (K.got out.new) (cnf_text (encoding (question_of shape spec.now)))) }
+    ensures front { GainsFront (K.got out.old) (K.got out.new) (cnf_text (encoding (question_of shape spec.now))) }
+    ensures later { K.faults out.old ≤ K.faults out.new }
+    ensures cause { IfErr result (IsWriteCause (K.faults out.old) (K.faults out.new)) }
+{
+    let formula = encode(alloc, spec, shape, None)?;
+    write_cnf(&formula, out)?;
+    Ok(())
+}
+
+/// How the command `cnf` ends.
+fn end_of_cnf<S: Source, K: Sink>(
+    alloc: Global,
+    output: u32,
+    shape: Shape,
+    pla: &mut S,
+    side: &mut S,
+    out: &mut K,
+) -> Ending
+    requires { shape.rows * shape.cols ≤ 32768 }
+    ensures ends { EndsEncoding output shape result record {
+      pla = record { told = S.left pla.old; faults = S.faults pla.old };
+      pla' = record { told = S.left pla.new; faults = S.faults pla.new };
+      side = record { told = S.left side.old; faults = S.faults side.old };
+      side' = record { told = S.left side.new; faults = S.faults side.new };
+      out = record { told = K.got out.old; faults = K.faults out.old };
+      out' = record { told = K.got out.new; faults = K.faults out.new };
+    } }
+    ensures pla_later { S.faults pla.old ≤ S.faults pla.new }
+    ensures out_later { K.faults out.old ≤ K.faults out.new }
+    ensures side_same { side.new ≡ side.old }
+{
+    let _ = &side;
+    let text = match input_pla(alloc, pla) {
+        Ok(text) => text,
+        Err(ending) => return ending,
+    };
+    let Some(spec) = text.specs.get(output as usize) else {
+        return Ending::NoSuchOutput;
+    };
+    match write_encoding(alloc, out, spec, shape) {
         Ok(()) => Ending::Done,
         Err(WorkFault::Write) => Ending::WriteFault,
         Err(WorkFault::NoMemory) => Ending::NoMemory,
@@ -192,6 +255,7 @@ fn end_of_job<S: Source, K: Sink>(
     side: &mut S,
     out: &mut K,
 ) -> Ending
+    requires { HasSmallShape job }
     ensures ends { EndsSo (Some job) result record {
       pla = record { told = S.left pla.old; faults = S.faults pla.old };
       pla' = record { told = S.left pla.new; faults = S.faults pla.new };
@@ -211,6 +275,7 @@ fn end_of_job<S: Source, K: Sink>(
         Job::Dual { output } => {
             end_of_lattices(alloc, Construction::Dual, output, pla, side, out)
         }
+        Job::Cnf { output, shape } => end_of_cnf(alloc, output, shape, pla, side, out),
         Job::Verify => end_of_verify(alloc, pla, side, out),
         Job::Check => end_of_check(alloc, pla, side, out),
     }

@@ -1,15 +1,16 @@
 //! The words of the command line.
-ghost use Rattle.std.specs.Prelude.{◌≡◌, ℕ, [], List, true, false, map, string_bytes, codes, Some, None, Err, IfOk, IsSomeAnd, option_map};
+ghost use Rattle.std.specs.Prelude.{◌≡◌, ◌≤◌, ℕ, [], List, true, false, map, string_bytes, codes, Some, None, Err, IfOk, IfSome, IsSomeAnd, option_and_then};
 ghost use Rattle.std.specs.Str.{bytes_eq};
 ghost use Rattle.std.specs.List.{list_all};
 ghost use Rattle.std.specs.Char.{is_ascii_digit};
 ghost use Rattle.clap.specs.Words.{app_of, kind_of, rule_of};
 ghost use Rattle.clap.specs.declared.error.kind.ErrorKind.TheVariants.{OutOfMemory};
-ghost use Rattle.four_lattice.specs.Words.{Given, given_of, is_number, is_plain, job_from, job_of, number_given, output_setting, row_of, verb_of};
+ghost use Rattle.four_lattice.specs.Words.{Given, given_of, is_number, is_plain, job_from, job_of, number_given, cols_setting, output_setting, rows_setting, row_of, size_given, verb_of, HasSmallShape};
 ghost use Rattle.four_lattice.specs.WordsParts.{Shows, bare_app, file_rule, is_option, is_spelled, number_rule, row_app, verb_name};
 
 use clap::error::ErrorKind;
 use clap::{Arg, ArgMatches, Command, value_parser};
+use lattice_grid::shape::Shape;
 use std::alloc::{AllocError, Global};
 
 /// What the words ask for.
@@ -19,7 +20,9 @@ pub enum Job {
     Pairs { output: Option<u32> },
     /// `dual`: the dual lattices of a PLA, of one output or of all.
     Dual { output: Option<u32> },
-    /// `verify FILE`: whether the lattices of a file are those of a PLA.
+    /// `cnf`: the formula of a shape for one output of a PLA.
+    Cnf { output: u32, shape: Shape },
+    /// `verify FILE`: whether the lattices of the report in a file realise the outputs of a PLA.
     Verify,
     /// `check FILE`: whether the steps of a file refute a CNF.
     Check,
@@ -30,6 +33,7 @@ pub enum Job {
 pub(crate) enum Verb {
     Pairs,
     Dual,
+    Cnf,
     Verify,
     Check,
 }
@@ -74,6 +78,7 @@ pub(crate) fn verb_of(word: &str) -> Option<Verb>
     match word {
         "pairs" => Some(Verb::Pairs),
         "dual" => Some(Verb::Dual),
+        "cnf" => Some(Verb::Cnf),
         "verify" => Some(Verb::Verify),
         "check" => Some(Verb::Check),
         _ => None,
@@ -114,7 +119,7 @@ fn is_number_word(word: &str) -> bool
 fn is_option_word(word: &str) -> bool
     ensures { result ≡ is_option word.now }
 {
-    word == "--output"
+    word == "--output" || word == "--rows" || word == "--cols"
 }
 
 /// Whether words are all plain.
@@ -169,6 +174,22 @@ fn output_option<'a>(alloc: Global) -> Arg<'a>
     number_option(alloc, "output", 0, 63)
 }
 
+/// `--rows`, of 1 to 16.
+fn rows_option<'a>(alloc: Global) -> Arg<'a>
+    ensures rule { rule_of result ≡ number_rule rows_setting }
+    ensures local { result.global ≡ false }
+{
+    number_option(alloc, "rows", 1, 16)
+}
+
+/// `--cols`, of 1 to 16.
+fn cols_option<'a>(alloc: Global) -> Arg<'a>
+    ensures rule { rule_of result ≡ number_rule cols_setting }
+    ensures local { result.global ≡ false }
+{
+    number_option(alloc, "cols", 1, 16)
+}
+
 /// The file that a command wants.
 fn file_argument<'a>(alloc: Global) -> Arg<'a>
     ensures rule { rule_of result ≡ file_rule }
@@ -184,6 +205,10 @@ fn command_of<'a>(alloc: Global, verb: Verb) -> Result<Command<'a>, AllocError>
     match verb {
         Verb::Pairs => bare_command(alloc, "pairs").arg(output_option(alloc)),
         Verb::Dual => bare_command(alloc, "dual").arg(output_option(alloc)),
+        Verb::Cnf => bare_command(alloc, "cnf")
+            .arg(rows_option(alloc))?
+            .arg(cols_option(alloc))?
+            .arg(output_option(alloc)),
         Verb::Verify => bare_command(alloc, "verify").arg(file_argument(alloc)),
         Verb::Check => bare_command(alloc, "check").arg(file_argument(alloc)),
     }
@@ -210,38 +235,66 @@ fn number_found(matches: &ArgMatches<'_>, name: &str) -> Option<u32>
     matches.get_one::<u32>(name)
 }
 
+/// The most rows and the most columns of a shape that is asked for.
+const MOST_SIDE: u32 = 16;
+
+/// The shape of so many rows and columns, where both are given, each from 1 to 16.
+fn shape_found(rows: Option<u32>, cols: Option<u32>) -> Option<Shape>
+    ensures same { result ≡ size_given rows cols }
+    ensures small { IfSome result (λ size. (size.rows ≤ 16) × (size.cols ≤ 16)) }
+{
+    let (rows, cols) = (rows?, cols?);
+    if rows > MOST_SIDE || cols > MOST_SIDE {
+        return None;
+    }
+    Shape::new(rows, cols)
+}
+
 /// The job of a command for which this was found.
-fn job_found(verb: Verb, matches: &ArgMatches<'_>) -> Job
-    ensures { (given : Given) → Shows given matches.now → result ≡ job_from verb given }
+fn job_found(verb: Verb, matches: &ArgMatches<'_>) -> Option<Job>
+    ensures job { (given : Given) → Shows given matches.now → result ≡ job_from verb given }
+    ensures small { IfSome result HasSmallShape }
 {
     match verb {
-        Verb::Pairs => Job::Pairs {
+        Verb::Pairs => Some(Job::Pairs {
             output: number_found(matches, "output"),
-        },
-        Verb::Dual => Job::Dual {
+        }),
+        Verb::Dual => Some(Job::Dual {
             output: number_found(matches, "output"),
-        },
-        Verb::Verify => Job::Verify,
-        Verb::Check => Job::Check,
+        }),
+        Verb::Cnf => {
+            let shape = shape_found(number_found(matches, "rows"), number_found(matches, "cols"))?;
+            Some(Job::Cnf {
+                output: number_found(matches, "output").unwrap_or(0),
+                shape,
+            })
+        }
+        Verb::Verify => Some(Job::Verify),
+        Verb::Check => Some(Job::Check),
     }
 }
 
 /// The job that a command and the words after it ask for.
 fn job_asked(alloc: Global, verb: Verb, words: &[String]) -> Result<Job, WordsFault>
-    ensures ok { IfOk result (λ job. option_map (job_from verb) (given_of (row_of verb) [] (map string_bytes words.now)) ≡ Some job) }
-    ensures refused { result ≡ Err WordsFault.Refused → given_of (row_of verb) [] (map string_bytes words.now) ≡ None }
+    ensures ok { IfOk result (λ job. option_and_then (job_from verb) (given_of (row_of verb) [] (map string_bytes words.now)) ≡ Some job) }
+    ensures refused { result ≡ Err WordsFault.Refused → option_and_then (job_from verb) (given_of (row_of verb) [] (map string_bytes words.now)) ≡ None }
+    ensures small { IfOk result HasSmallShape }
 {
     if !are_spelled(words) {
         return Err(WordsFault::Refused);
     }
     let matches = matches_of(alloc, verb, words)?;
-    Ok(job_found(verb, &matches))
+    match job_found(verb, &matches) {
+        Some(job) => Ok(job),
+        None => Err(WordsFault::Refused),
+    }
 }
 
 /// The job that the words after the program's name ask for: refused exactly where they are no command's.
 pub fn settings(alloc: Global, words: &[String]) -> Result<Job, WordsFault>
     ensures ok { IfOk result (λ job. job_of (map string_bytes words.now) ≡ Some job) }
     ensures refused { result ≡ Err WordsFault.Refused → job_of (map string_bytes words.now) ≡ None }
+    ensures small { IfOk result HasSmallShape }
 {
     let [name, rest @ ..] = words else {
         return Err(WordsFault::Refused);

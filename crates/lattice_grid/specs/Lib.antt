@@ -1,4 +1,5 @@
 pub mod Control
+pub mod Defects
 pub mod Lattice
 pub mod Neighbours
 pub mod Pairs

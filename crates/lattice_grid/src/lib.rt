@@ -1,6 +1,7 @@
 //! Rectangles of switches, what they join, and the lattice of pairs.
 #![tactic(auto)]
 
+pub mod array;
 pub mod control;
 pub mod grid;
 pub mod neighbours;

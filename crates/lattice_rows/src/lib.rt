@@ -8,6 +8,8 @@ mod devices;
 #[cfg(test)]
 mod dual;
 #[cfg(test)]
+mod encoding;
+#[cfg(test)]
 mod lattices;
 #[cfg(test)]
 mod pairs;

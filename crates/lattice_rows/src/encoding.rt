@@ -1,0 +1,132 @@
+//! Runs of the command `cnf`, and encodings and their solutions.
+use crate::row::{Row, done, refused, try_row};
+use clause_core::valuation::Valuation;
+use cube_core::assign::Assign;
+use cube_core::spec::Spec;
+use cube_core::table::Table;
+use four_lattice::status::Status;
+use lattice_grid::array::{Array, Defect};
+use lattice_grid::control::Control;
+use lattice_grid::pairs::pairs;
+use lattice_grid::shape::{Place, Shape};
+use reach_encoding::decode::decode;
+use reach_encoding::encode::encode;
+use reach_encoding::model::model_of;
+use std::test::Fail;
+
+/// One input, and an output that is that input.
+const ONE: &str = ".i 1\n.o 1\n1 1\n.e\n";
+
+/// The formula of one cell for it.
+const ONE_CELL: &str =
+    "p cnf 8 13\n1 2 3 4 0\n-1 -5 0\n-1 -6 0\n-2 5 0\n-2 6 0\n-3 -5 0\n-3 6 0\n-4 5 0\n-4 -6 0\n-5 7 0\n-7 0\n6 8 0\n-8 0\n";
+
+/// Words that are refused.
+fn refused_words(words: &'static [&'static str]) -> Row {
+    refused(words, ONE, "", Status::Words, "words refused\n")
+}
+
+#[test]
+fn formulas(rt: HostRuntime) -> Result<(), Fail> {
+    let rows = [
+        done(&["cnf", "--rows", "1", "--cols", "1"], ONE, "", ONE_CELL),
+        done(
+            &["cnf", "--cols", "1", "--output", "0", "--rows", "1"],
+            ONE,
+            "",
+            ONE_CELL,
+        ),
+        // No assignment is asked.
+        done(
+            &["cnf", "--rows", "1", "--cols", "1"],
+            ".i 1\n.o 1\n.type fr\n.e\n",
+            "",
+            "p cnf 4 1\n1 2 3 4 0\n",
+        ),
+        refused(
+            &["cnf", "--rows", "1", "--cols", "1", "--output", "1"],
+            ONE,
+            "",
+            Status::Input,
+            "input refused: NoSuchOutput\n",
+        ),
+        refused_words(&["cnf"]),
+        refused_words(&["cnf", "--rows", "1"]),
+        refused_words(&["cnf", "--rows", "0", "--cols", "1"]),
+        refused_words(&["cnf", "--rows", "1", "--cols", "17"]),
+        refused_words(&["cnf", "--rows", "1", "--cols", "1", "J"]),
+        refused_words(&["pairs", "--rows", "1"]),
+    ];
+    for row in &rows {
+        try_row(&rt, rt.alloc(), row)?;
+    }
+    Ok(())
+}
+
+/// The two-input function that is 1 where exactly one input is.
+fn exclusive_or() -> Option<Spec> {
+    let mut on = Table::empty();
+    on.add(Assign::new(1)?);
+    on.add(Assign::new(2)?);
+    let mut off = Table::empty();
+    off.add(Assign::new(0)?);
+    off.add(Assign::new(3)?);
+    Spec::new(2, on, off)
+}
+
+/// Two inputs at once.
+fn conjunction() -> Option<Spec> {
+    let mut on = Table::empty();
+    on.add(Assign::new(3)?);
+    let off = on.complement(2);
+    Spec::new(2, on, off)
+}
+
+#[test]
+fn a_lattice_is_a_solution(rt: HostRuntime) -> Result<(), Fail> {
+    let alloc = rt.alloc();
+    let spec = exclusive_or().ok_or("a function")?;
+    let grid = pairs(alloc, &spec)?;
+    assert_eq!(rt; grid.shape().rows(), 2);
+    assert_eq!(rt; grid.shape().cols(), 2);
+    let formula = encode(alloc, &spec, grid.shape(), None)?;
+    let values = model_of(alloc, &spec, &grid, None)?;
+    assert_eq!(rt; formula.vars(), 56);
+    assert_eq!(rt; values.vars(), 56);
+    assert!(rt; formula.satisfied_by(&values));
+    // The first cell has control `x0`, which is number 2.
+    assert!(rt; !values.of(1));
+    assert!(rt; !values.of(2));
+    assert!(rt; values.of(3));
+    Ok(())
+}
+
+#[test]
+fn stuck_cells(rt: HostRuntime) -> Result<(), Fail> {
+    let alloc = rt.alloc();
+    let shape = Shape::new(2, 1).ok_or("a shape")?;
+    let defects = vec![in alloc; Defect::StuckClosed, Defect::Sound]?;
+    let closed = Array::new(shape, defects).ok_or("an array")?;
+    assert_eq!(rt; closed.at(Place { row: 0, col: 0 }), Defect::StuckClosed);
+    let spec = conjunction().ok_or("a function")?;
+    // Two cells have a control; the closed one has a value at each of four assignments, the sound one for each of six controls;
+    // marks take four clauses at each of three off assignments, and six at the on assignment.
+    let formula = encode(alloc, &spec, shape, Some(&closed))?;
+    assert_eq!(rt; formula.vars(), 28);
+    assert_eq!(rt; formula.count(), 2 + 4 + 24 + 12 + 6);
+    Ok(())
+}
+
+#[test]
+fn the_first_chosen_controls_are_read(rt: HostRuntime) -> Result<(), Fail> {
+    let alloc = rt.alloc();
+    let shape = Shape::new(2, 1).ok_or("a shape")?;
+    let mut values = vec![in alloc; true; 8]?;
+    values[0] = false;
+    values[1] = false;
+    values[2] = false;
+    let grid = decode(alloc, 1, shape, &Valuation::new(values))?;
+    assert_eq!(rt; grid.at(Place { row: 0, col: 0 }), Control::Bar(0));
+    assert_eq!(rt; grid.at(Place { row: 1, col: 0 }), Control::Zero);
+    Ok(())
+}

@@ -1,0 +1,17 @@
+pub mod ModelLists
+pub mod ModelNumbers
+pub mod ModelSides
+pub mod ModelClauses
+pub mod ModelSets
+pub mod ModelLaws
+pub mod EncodingLaws
+pub mod ReadLaws
+pub mod DecodeLaws
+pub mod EncodeCells
+pub mod EncodeLength
+pub mod EncodeLists
+pub mod EncodeNumbers
+pub mod ModelOfFlood
+pub mod ModelOfLattice
+pub mod ModelOfStarts
+pub mod ModelOfTables

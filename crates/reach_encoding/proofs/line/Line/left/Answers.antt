@@ -1,0 +1,6 @@
+use Rattle.std.proofs.Common.{rules}
+use Rattle.reach_encoding.proofs.EncodeCells.{column_within}
+use Rattle.reach_encoding.proofs.line.Line.left.Goals as goal
+
+pub returns-clause-within : goal.returns-clause-within
+returns-clause-within c = search (rules, column_within c.args.shape.rows c.args.shape.cols 0 (search rules))

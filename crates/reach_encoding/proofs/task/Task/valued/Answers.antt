@@ -1,0 +1,21 @@
+use Rattle.std.proofs.Common.{arith, rules}
+use Rattle.reach_encoding.proofs.EncodeNumbers.{value_low, value_over}
+use Rattle.reach_encoding.proofs.task.Task.valued.Goals as goal
+
+pub overflow_mul-time : goal.overflow_mul-time
+overflow_mul-time c = omega (arith, value_low _ c.cells-cells.ensures.question c.args.cell c.args.time _ _ c.cells-cells.ensures.same c.controls.ensures.same c.requires.cell c.requires.time)
+
+pub overflow_add-cells : goal.overflow_add-cells
+overflow_add-cells c = omega (arith, value_low _ c.cells-cells.ensures.question c.args.cell c.args.time _ _ c.cells-cells.ensures.same c.controls.ensures.same c.requires.cell c.requires.time)
+
+pub overflow_add-cells-2 : goal.overflow_add-cells-2
+overflow_add-cells-2 c = omega (arith, value_low _ c.cells-cells.ensures.question c.args.cell c.args.time _ _ c.cells-cells.ensures.same c.controls.ensures.same c.requires.cell c.requires.time)
+
+pub overflow_add-cells-3 : goal.overflow_add-cells-3
+overflow_add-cells-3 c = omega (arith, value_low _ c.cells-cells.ensures.question c.args.cell c.args.time _ _ c.cells-cells.ensures.same c.controls.ensures.same c.requires.cell c.requires.time)
+
+pub new-requires-clause-within : goal.new-requires-clause-within
+new-requires-clause-within c = omega (arith, value_low _ c.cells-cells.ensures.question c.args.cell c.args.time _ _ c.cells-cells.ensures.same c.controls.ensures.same c.requires.cell c.requires.time)
+
+pub returns-clause-over : goal.returns-clause-over
+returns-clause-over c = value_over c.args.self.now c.args.cell c.args.time c.args.on _ (search rules) c.requires.cell c.requires.time
