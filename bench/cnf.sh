@@ -15,4 +15,4 @@ take() { /usr/bin/env time -f "%U s + %S s, %M KB at most" "$@" 2>&1 >/dev/null 
 head -1 "$formula"
 echo "cnf      $(take sh -c "exec \"$program\" cnf --rows 16 --cols 16 <\"$folder/drawn.pla\"")"
 echo "wc       $(take wc "$formula")"
-echo "minisat  $(minisat -cpu-lim=1 "$formula" 2>/dev/null | grep 'Parse time')"
+echo "minisat  $(timeout -s INT 25 minisat "$formula" 2>/dev/null | grep -o "Parse time: *[0-9.]* s")"
