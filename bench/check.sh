@@ -1,11 +1,7 @@
 #!/bin/sh
 # Times `check` on a proof of many steps, beside a small C checker of the same format.
 # usage: bench/check.sh PROGRAM FOLDER [CHAINS LENGTH]
-set -e
-program=$1
-folder=$2
-here=$(dirname "$0")
-mkdir -p "$folder"
+. "$(dirname "$0")/common.sh"
 python3 "$here/make_proof.py" "$folder" "${3:-200}" "${4:-2000}"
 cc -O2 -o "$folder/lrat_check" "$here/lrat_check.c"
 echo "cnf $(wc -c <"$folder/chains.cnf") bytes, lrat $(wc -c <"$folder/chains.lrat") bytes, $(wc -l <"$folder/chains.lrat") steps"

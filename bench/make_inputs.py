@@ -4,15 +4,15 @@ import random
 import sys
 
 
-def large(path: str) -> None:
-    """65,536 rows of ten inputs and 51 outputs, 4.1 MB."""
-    draw = random.Random(1)
+def drawn(path: str, seed: int, outputs: int, rows: int, digits: str, marks: str) -> None:
+    """So many rows of ten inputs and so many outputs, whose digits are drawn from these."""
+    draw = random.Random(seed)
     with open(path, "w") as out:
-        out.write(".i 10\n.o 51\n")
-        for _ in range(65_536):
-            digits = "".join(draw.choice("01") for _ in range(10))
-            marks = "".join(draw.choice("0000000001") for _ in range(51))
-            out.write(f"{digits} {marks}\n")
+        out.write(f".i 10\n.o {outputs}\n")
+        for _ in range(rows):
+            row = "".join(draw.choice(digits) for _ in range(10))
+            named = "".join(draw.choice(marks) for _ in range(outputs))
+            out.write(f"{row} {named}\n")
         out.write(".e\n")
 
 
@@ -27,18 +27,8 @@ def parity(path: str) -> None:
         out.write(".e\n")
 
 
-def drawn(path: str) -> None:
-    """256 rows of ten inputs and 64 outputs, each third input digit a don't-care."""
-    draw = random.Random(2)
-    with open(path, "w") as out:
-        out.write(".i 10\n.o 64\n")
-        for _ in range(256):
-            digits = "".join(draw.choice("01-") for _ in range(10))
-            marks = "".join(draw.choice("1000") for _ in range(64))
-            out.write(f"{digits} {marks}\n")
-        out.write(".e\n")
-
-
-large(sys.argv[1] + "/large.pla")
+# 65,536 rows, 4.1 MB
+drawn(sys.argv[1] + "/large.pla", 1, 51, 65_536, "01", "0000000001")
 parity(sys.argv[1] + "/parity.pla")
-drawn(sys.argv[1] + "/drawn.pla")
+# 256 rows, each third input digit a don't-care
+drawn(sys.argv[1] + "/drawn.pla", 2, 64, 256, "01-", "1000")
