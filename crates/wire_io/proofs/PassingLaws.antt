@@ -7,7 +7,7 @@ use Rattle.std.proofs.lemmas.List.Concat.{flat_map-append}
 use Rattle.std.proofs.lemmas.List.{append-nil, take-append-drop, take_more}
 use Rattle.wire_io.specs.Told.{Gains, GainsFront}
 use Rattle.wire_io.specs.Laws.{Gains-none, Gains-append, GainsFront-append}
-use Rattle.wire_io.specs.Passing.{Passes}
+use Rattle.wire_io.specs.Passing.{Passes, IsHeld, IsStopped}
 
 pub Passes-none : (told : Option (List ℕ)) (waiting : List ℕ) → Passes told told waiting waiting []
 Passes-none told waiting = record { passed = []; all = sym (append-nil waiting); gained = Gains-none told }
@@ -107,14 +107,18 @@ Passes-flat_map f xs i d x a b c u v w within is before now =
     ∙ ap (λ ys. flat_map f (take i xs) ++ ys) (append-nil (f (get_or xs i d)) ∙ ap f (sym is)) in
     subst (Passes a c u w) (sym more) (Passes-append a b c u v w (flat_map f (take i xs)) (f x) before now)
 
+-- the pieces of a list before one element, its own, and those behind it
+pub flat_map-parts : {X : Type 0} (f : X → List ℕ) (xs : List X) (i : ℕ) (d x : X) → i < length xs → x ≡ get_or xs i d
+    → flat_map f xs ≡ flat_map f (take i xs) ++ (f x ++ flat_map f (drop (suc i) xs))
+flat_map-parts f xs i d x within is =
+    ap (flat_map f) (sym (take-append-drop i xs)) ∙ flat_map-append f (take i xs) (drop i xs)
+    ∙ ap (λ ys. flat_map f (take i xs) ++ flat_map f ys) (drop-cons xs i d within) ∙ ap (λ y. flat_map f (take i xs) ++ (f y ++ flat_map f (drop (suc i) xs))) (sym is)
+
 -- such a loop that stops within the piece of one element
 pub Passes-flat_map_front : {X : Type 0} (f : X → List ℕ) (xs : List X) (i : ℕ) (d x : X) (a b c : Option (List ℕ)) (u v : List ℕ) → i < length xs → x ≡ get_or xs i d
     → Passes a b u v (flat_map f (take i xs)) → GainsFront b c (v ++ f x) → GainsFront a c (u ++ flat_map f xs)
 Passes-flat_map_front f xs i d x a b c u v within is before now =
-    let parts : flat_map f xs ≡ flat_map f (take i xs) ++ (f x ++ flat_map f (drop (suc i) xs)) =
-    ap (flat_map f) (sym (take-append-drop i xs)) ∙ flat_map-append f (take i xs) (drop i xs)
-    ∙ ap (λ ys. flat_map f (take i xs) ++ flat_map f ys) (drop-cons xs i d within) ∙ ap (λ y. flat_map f (take i xs) ++ (f y ++ flat_map f (drop (suc i) xs))) (sym is) in
-    subst (λ z. GainsFront a c (u ++ z)) (sym parts)
+    subst (λ z. GainsFront a c (u ++ z)) (sym (flat_map-parts f xs i d x within is))
     (Passes-front a b c u v (flat_map f (take i xs)) (f x ++ flat_map f (drop (suc i) xs)) before
     (subst (GainsFront b c) (append_assoc v (f x) (flat_map f (drop (suc i) xs))) (GainsFront-longer b c (v ++ f x) (flat_map f (drop (suc i) xs)) now)))
 
@@ -125,3 +129,17 @@ GainsFront-first a b u xs ys h = subst (GainsFront a b) (append_assoc u xs ys) (
 -- nothing is still to come
 pub IsPassed-done : (a b : Option (List ℕ)) (u v whole : List ℕ) → IsPassed a b u v [] whole → Passes a b u v whole
 IsPassed-done a b u v whole h = subst (Passes a b u v) (sym (append-nil h.done) ∙ h.text) h.passes
+
+-- a loop in which the piece of one element did not pass
+pub IsStopped-flat_map : {X : Type 0} (f : X → List ℕ) (xs : List X) (i : ℕ) (d x : X) (a b c : Option (List ℕ)) (u v w : List ℕ) → i < length xs → x ≡ get_or xs i d
+    → Passes a b u v (flat_map f (take i xs)) → IsHeld b c v w (f x) → IsStopped a c u w (flat_map f xs)
+IsStopped-flat_map f xs i d x a b c u v w within is before now = record {
+  front = flat_map f (take i xs);
+  piece = f x;
+  rest = flat_map f (drop (suc i) xs);
+  whole = flat_map-parts f xs i d x within is;
+  middle = b;
+  waited = v;
+  passed = before;
+  held = now;
+}

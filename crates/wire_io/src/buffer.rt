@@ -2,7 +2,7 @@
 ghost use Rattle.std.specs.Prelude.{◌≡◌, ℕ, ◌+◌, ◌-◌, ◌≤◌, List, [], ◌++◌, length, take, OnOk, OnErr};
 ghost use Rattle.wire_io.specs.Causes.{HasCause};
 ghost use Rattle.wire_io.specs.Told.{Gains, GainsFront};
-ghost use Rattle.wire_io.specs.Passing.{Passes};
+ghost use Rattle.wire_io.specs.Passing.{Passes, IsHeld, IsStopped};
 ghost use Rattle.wire_io.specs.Pieces.{joined};
 
 use crate::fault::Failed;
@@ -86,6 +86,9 @@ impl Buffer {
     pub fn put<K: Sink>(&mut self, sink: &mut K, piece: &[u8]) -> Result<(), Failed>
         ensures ok { OnOk result (Passes (K.got sink.old) (K.got sink.new) self.old self.new piece.now) }
         ensures front { GainsFront (K.got sink.old) (K.got sink.new) (self.old ++ piece.now) }
+        ensures held { OnErr result (IsHeld (K.got sink.old) (K.got sink.new) self.old self.new piece.now) }
+        // Where there is room for them the bytes only wait.
+        ensures gathers { length self.old + length piece.now ≤ 8192 → (self.new ≡ self.old ++ piece.now) × (sink.new ≡ sink.old) }
         ensures cause { HasCause (K.faults sink.old) (K.faults sink.new) result }
     {
         if piece.len() <= self.room() {
@@ -105,6 +108,7 @@ impl Buffer {
     pub fn put_all<K: Sink>(&mut self, sink: &mut K, pieces: &[&[u8]]) -> Result<(), Failed>
         ensures ok { OnOk result (Passes (K.got sink.old) (K.got sink.new) self.old self.new (joined pieces.now)) }
         ensures front { GainsFront (K.got sink.old) (K.got sink.new) (self.old ++ joined pieces.now) }
+        ensures stopped { OnErr result (IsStopped (K.got sink.old) (K.got sink.new) self.old self.new (joined pieces.now)) }
         ensures cause { HasCause (K.faults sink.old) (K.faults sink.new) result }
     {
         for piece in pieces {

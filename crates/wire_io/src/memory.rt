@@ -64,6 +64,7 @@ impl Source for MemorySource {
         ensures fails { IsErr result ↔ Contains (source_fails self.old) (source_calls self.new) }
         ensures many { IfOk result (λ count. count ≡ min (min (length (left_of self.old)) (source_step self.old)) (length buf.new)) }
         ensures counts { CountsRead self.old self.new }
+        ensures raised { OnErr result (self.new.faults ≡ min (self.old.faults + 1) (2 ^ 64 - 1)) }
     {
         self.calls = self.calls.saturating_add(1);
         if is_listed(&self.fails, self.calls) {
@@ -144,6 +145,7 @@ impl Sink for MemorySink {
         ensures fails { IsErr result ↔ ((length (got_of self.old) ≡ room_of self.old) ⊎ Contains (sink_fails self.old) (sink_calls self.new)) }
         ensures many { IfOk result (λ count. count ≡ min (min (length piece.now) (sink_step self.old)) (room_of self.old - length (got_of self.old))) }
         ensures counts { CountsWrite self.old self.new }
+        ensures raised { OnErr result (self.new.faults ≡ min (self.old.faults + 1) (2 ^ 64 - 1)) }
     {
         self.calls = self.calls.saturating_add(1);
         if self.kept.len() == self.room {

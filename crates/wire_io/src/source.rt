@@ -42,6 +42,7 @@ pub fn read_all<S: Source>(
         (record { told = S.left source.old; faults = S.faults source.old })
         (record { told = S.left source.new; faults = S.faults source.new })) }
     ensures later { S.faults source.old ≤ S.faults source.new }
+    ensures still { OnOk result (S.faults source.new ≡ S.faults source.old) }
 {
     let mut bytes = Vec::new(alloc);
     let mut buf = [0u8; PIECE];

@@ -1,4 +1,4 @@
-use Rattle.std.proofs.Common.{arith, length-drop}
+use Rattle.std.proofs.Common.{arith, length-drop, ◌∙◌}
 use Rattle.wire_io.specs.Laws.{GainsFront-take, Gains-take, slice_to_end}
 use Rattle.wire_io.proofs.sink.write_all.Goals as goal
 
@@ -11,5 +11,5 @@ loop-given-preserved g c =
     let within = rw slice_to_end at c.in_ok-given.ensures.bound in (
       Gains-take _ _ _ _ _ _ c.loop-given.invariant.0 more,
       omega (arith, within, length-drop c.loop-given.given c.args.bytes.now),
-      omega (arith, c.in_ok-given.ensures.cause.later),
+      c.in_ok-given.ensures.cause.still ∙ c.loop-given.invariant.2,
     )
