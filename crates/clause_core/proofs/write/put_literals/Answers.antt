@@ -1,4 +1,4 @@
-use Rattle.std.proofs.Common.{arith, codes, ◌++◌}
+use Rattle.std.proofs.Common.{◌∙◌, codes, ◌++◌}
 use Rattle.clause_core.specs.Cnf.{literal_text}
 use Rattle.clause_core.proofs.BatchLaws.{batched-more, batched-stop, batched-passes, flat_map-drop, flat_map-end}
 use Rattle.clause_core.proofs.write.put_literals.Goals as goal
@@ -12,7 +12,7 @@ pub loop-lit-preserved : goal.loop-lit-preserved
 loop-lit-preserved g c = (
   batched-more _ _ _ _ _ _ _ _ _ c.loop-lit.invariant.0 (flat_map-drop (λ l. literal_text l ++ codes " ") c.args.clause.now c.loop-lit.lit-index c.lit-item.result c.loop-lit-test.true)
       (rw c.lit-item.is at c.in_ok-put_literal.ensures.ok),
-  omega (arith, c.in_ok-put_literal.ensures.cause.later),
+  c.in_ok-put_literal.ensures.cause.still ∙ c.loop-lit.invariant.1,
 )
 
 pub returns-clause-ok : goal.returns-clause-ok

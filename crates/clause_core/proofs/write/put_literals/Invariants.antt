@@ -1,4 +1,4 @@
-use Rattle.std.proofs.Common.{◌≤◌, ◌++◌, drop}
+use Rattle.std.proofs.Common.{◌≡◌, ◌++◌, drop}
 use Rattle.wire_io.specs.Laws.{IsWritten}
 use Rattle.clause_core.specs.Cnf.{literals_text}
 use Rattle.clause_core.proofs.write.put_literals.Given as goal
@@ -6,4 +6,4 @@ use Rattle.clause_core.proofs.write.put_literals.Given as goal
 abbrev pub invariant-loop-lit : goal.invariant-loop-lit
 invariant-loop-lit g l =
     IsWritten (g.K.Sink.got l.initial.sink) (g.K.Sink.got l.sink) (l.batch ++ literals_text (drop l.lit-index l.clause)) (l.initial.batch ++ literals_text l.clause)
-    × (g.K.Sink.faults l.initial.sink ≤ g.K.Sink.faults l.sink)
+    × (g.K.Sink.faults l.sink ≡ g.K.Sink.faults l.initial.sink)

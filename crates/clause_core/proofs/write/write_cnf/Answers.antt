@@ -1,4 +1,4 @@
-use Rattle.std.proofs.Common.{◌<◌, length, rules, arith, refl}
+use Rattle.std.proofs.Common.{◌<◌, length, rules, ◌∙◌, refl}
 use Rattle.wire_io.specs.Laws.{IsWritten-stop}
 use Rattle.clause_core.proofs.BatchLaws.{batched-more, batched-stop}
 use Rattle.clause_core.proofs.WriteLaws.{head-stop, head-then, clauses-next}
@@ -10,7 +10,7 @@ returns-in_err-put_head-clause-front g c = head-stop _ _ _ _ _ _ c.new-batch.ens
 pub loop-index-init : goal.loop-index-init
 loop-index-init g c = (
   head-then _ _ _ _ _ _ _ c.new-batch.ensures c.vars.ensures.value c.count.ensures.value c.in_ok-put_head.ensures.ok,
-  omega (arith, c.in_ok-put_head.ensures.cause.later),
+  c.in_ok-put_head.ensures.cause.still,
 )
 
 pub returns-in_err-put_clause-clause-front : goal.returns-in_err-put_clause-clause-front
@@ -22,7 +22,7 @@ pub loop-index-preserved : goal.loop-index-preserved
 loop-index-preserved g c =
     let below : c.loop-index.index < length c.args.formula.now.clauses = search rules in (
       batched-more _ _ _ _ _ _ _ _ _ c.loop-index.invariant.0 (clauses-next c.args.formula.now.clauses c.loop-index.index c.clause.result.now below c.clause.ensures.value) c.in_ok-put_clause.ensures.ok,
-      omega (arith, c.in_ok-put_clause.ensures.cause.later),
+      c.in_ok-put_clause.ensures.cause.still ∙ c.loop-index.invariant.1,
     )
 
 pub returns-clause-front : goal.returns-clause-front
