@@ -1,4 +1,4 @@
-use Rattle.std.proofs.Common.{arith, codes, ◌++◌, get_or, pos, w32, rules}
+use Rattle.std.proofs.Common.{◌∙◌, arith, codes, ◌++◌, get_or, pos, w32, rules}
 use Rattle.std.specs.Fmt.{signed_decimal}
 use Rattle.std.proofs.lemmas.Int.{to_z-of_z}
 use mir.Val.{SFits}
@@ -18,7 +18,7 @@ loop-hint-preserved g c =
     let same = to_z-of_z w32 (get_or c.args.hints.now c.loop-hint.hint-index (pos 0)) fits in (
       batched-more _ _ _ _ _ _ _ _ _ c.loop-hint.invariant.0 (flat_map-drop (λ h. signed_decimal h ++ codes " ") c.args.hints.now c.loop-hint.hint-index (pos 0) c.loop-hint-test.true)
           (rw same at c.in_ok-put_hint.ensures.ok),
-      omega (arith, c.in_ok-put_hint.ensures.cause.later),
+      c.in_ok-put_hint.ensures.cause.still ∙ c.loop-hint.invariant.1,
     )
 
 pub returns-clause-ok : goal.returns-clause-ok

@@ -28,7 +28,7 @@ returns-in_err-write_block-clause-front g c =
 pub loop-block-preserved : goal.loop-block-preserved
 loop-block-preserved g c = record {
   gained = one_more c.args.blocks.now c.loop-block.block-index c.block-item.result _ _ _ c.loop-block-test.true c.block-item.is c.loop-block.invariant.gained c.in_ok-write_block.ensures.ok;
-  later = omega (arith, c.in_ok-write_block.ensures.cause.later);
+  later = c.in_ok-write_block.ensures.cause.still ∙ c.loop-block.invariant.later;
 }
 
 pub returns-clause-ok : goal.returns-clause-ok

@@ -1,4 +1,4 @@
-use Rattle.std.proofs.Common.{◌≤◌, ◌<◌, arith, rules}
+use Rattle.std.proofs.Common.{◌∙◌, ◌≤◌, ◌<◌, arith, rules}
 use Rattle.wire_io.proofs.PassingLaws.{IsPassed-more, IsPassed-stop, IsPassed-done, GainsFront-passed}
 use Rattle.report_text.proofs.TextLaws.{lines_after-next, lines_after-end, grid_text-lines}
 use Rattle.report_text.proofs.write.put_grid.Goals as goal
@@ -15,7 +15,7 @@ loop-row-preserved g c =
     let more = rw c.row.ensures.cells at c.in_ok-put_line.ensures.ok in
     record {
       passed = IsPassed-more _ _ _ _ _ _ _ _ _ _ c.loop-row.invariant.passed (lines_after-next c.args.grid.now c.loop-row.row below) more;
-      later = omega (arith, c.in_ok-put_line.ensures.cause.later);
+      later = c.in_ok-put_line.ensures.cause.still ∙ c.loop-row.invariant.later;
     }
 
 pub returns-clause-ok : goal.returns-clause-ok

@@ -1,4 +1,4 @@
-use Rattle.std.proofs.Common.{◌≡◌, length, arith}
+use Rattle.std.proofs.Common.{◌∙◌, ◌≡◌, length, arith}
 use Rattle.wire_io.proofs.PassingLaws.{IsPassed-more, IsPassed-stop, IsPassed-done, GainsFront-passed}
 use Rattle.report_text.proofs.TextLaws.{cells_text-next, cells_text-end}
 use Rattle.report_text.proofs.write.put_line.Goals as goal
@@ -10,7 +10,7 @@ returns-in_err-put_cell-clause-front g c =
 pub loop-cell-preserved : goal.loop-cell-preserved
 loop-cell-preserved g c = record {
   passed = IsPassed-more _ _ _ _ _ _ _ _ _ _ c.loop-cell.invariant.passed (cells_text-next c.loop-cell.lead.now c.args.cells.now c.loop-cell.cell-index _ c.loop-cell-test.true) c.in_ok-put_cell.ensures.ok;
-  later = omega (arith, c.in_ok-put_cell.ensures.cause.later);
+  later = c.in_ok-put_cell.ensures.cause.still ∙ c.loop-cell.invariant.later;
 }
 
 pub returns-in_err-put-clause-front : goal.returns-in_err-put-clause-front

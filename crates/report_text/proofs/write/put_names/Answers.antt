@@ -1,4 +1,4 @@
-use Rattle.std.proofs.Common.{◌≤◌, ◌∷◌, arith, length}
+use Rattle.std.proofs.Common.{◌∙◌, ◌≤◌, ◌∷◌, arith, length}
 use Rattle.std.proofs.lemmas.List.{take_all}
 use Rattle.wire_io.proofs.PassingLaws.{Passes-flat_map, Passes-flat_map_front, GainsFront-passed}
 use Rattle.pla_reader.specs.Names.{bytes_of}
@@ -16,7 +16,7 @@ loop-name-preserved g c =
     let now = rw (named_piece _ _ c.bytes.ensures.same) at c.in_ok-put_all.ensures.ok in
     record {
       passed = Passes-flat_map (λ name. 32 ∷ bytes_of name) c.args.names.now c.loop-name.name-index _ c.name-item.result _ _ _ _ _ _ c.loop-name-test.true c.name-item.is c.loop-name.invariant.passed now;
-      later = omega (arith, c.in_ok-put_all.ensures.cause.later);
+      later = c.in_ok-put_all.ensures.cause.still ∙ c.loop-name.invariant.later;
     }
 
 pub returns-clause-ok : goal.returns-clause-ok
