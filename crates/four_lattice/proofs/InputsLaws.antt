@@ -1,19 +1,25 @@
--- Sources with more bytes than a text may have.
+-- Sources with more bytes than a text may have, and texts that give no value.
 use Rattle.std.proofs.Common.{◌≡◌, ℕ, ◌+◌, ◌<◌, ◌≤◌, List, ◌∷◌, length, ap, arith, ◌∙◌, length-append, Some, None, Err, refl, sym, subst, inl, inr, [], ◌++◌}
-use Rattle.std.specs.Prelude.{IfSome}
+use Rattle.std.specs.Prelude.{IfSome, ◌≢◌, ◌⊎◌}
 use Rattle.std.specs.declared.option.Option.{Option}
 use Rattle.std.proofs.lemmas.Bool.{lt-ltb}
 use Rattle.clause_core.specs.CnfRead.{cnf_of}
-use Rattle.clause_core.specs.declared.refusal.CnfRefusal.TheVariants.{TooLong}
+use Rattle.clause_core.specs.declared.refusal.CnfRefusal.{CnfRefusal}
+use Rattle.clause_core.specs.declared.refusal.CnfRefusal.TheVariants as cnf
+use Rattle.lrat_replay.specs.declared.refusal.LratRefusal.{LratRefusal}
+use Rattle.lrat_replay.specs.declared.refusal.LratRefusal.TheVariants as lrat
 use Rattle.pla_reader.specs.declared.pla.PlaRefusal.{PlaRefusal}
 use Rattle.pla_reader.specs.declared.pla.PlaRefusal.TheVariants as pla
-use Rattle.pla_reader.specs.Reading.{Refused}
-use Rattle.wire_io.specs.Causes.{Device}
-use Rattle.four_lattice.specs.Inputs.{EndsPla}
-use Rattle.four_lattice.specs.declared.status.Ending.{Ending}
-use Rattle.four_lattice.specs.declared.status.Ending.TheVariants.{Pla, NoMemory}
-use Rattle.std.specs.Prelude.{◌≢◌, ◌⊎◌}
+use Rattle.report_text.specs.declared.report.ReportRefusal.{ReportRefusal}
+use Rattle.report_text.specs.declared.report.ReportRefusal.TheVariants as report
+use Rattle.wire_io.specs.Causes.{IsReadRefusal}
 use Rattle.wire_io.specs.Told.{Loses, LosesCount, LosesUpTo, IsSpent}
+use Rattle.wire_io.specs.declared.fault.ReadFault.{ReadFault}
+use Rattle.wire_io.specs.declared.fault.ReadFault.TheVariants as read
+use Rattle.four_lattice.specs.Devices.{Change, EndsText, unread}
+use Rattle.four_lattice.specs.declared.ending.Refusal.{Refusal}
+use Rattle.four_lattice.specs.declared.ending.Ending.{Ending}
+use Rattle.four_lattice.specs.declared.ending.Ending.TheVariants.{Refused, NoMemory}
 
 -- where so many bytes were taken, there were as many
 pub had_more : (old new : Option (List ℕ)) (limit : ℕ) → LosesCount old new (limit + 1) → IfSome old (λ bytes. limit < length bytes)
@@ -24,38 +30,12 @@ had_more (Some before) (Some after) limit h =
     let many = h.many in
     omega (arith, long, many)
 
-pub cnf_of-long : (bytes : List ℕ) → 67108864 < length bytes → cnf_of bytes ≡ Err TooLong
+pub cnf_of-long : (bytes : List ℕ) → 67108864 < length bytes → cnf_of bytes ≡ Err cnf.TooLong
 unfolding cnf_of
 cnf_of-long bytes long = rw (lt-ltb 67108864 (length bytes) long) refl
 
-pub too_long_cnf : (old new : Option (List ℕ)) → LosesCount old new 67108865 → IfSome old (λ bytes. cnf_of bytes ≡ Err TooLong)
-too_long_cnf None new h = tt
-too_long_cnf (Some before) new h = cnf_of-long before (had_more (Some before) new 67108864 h)
-
-pub LosesUpTo-count : (old new : Option (List ℕ)) (n : ℕ) → LosesCount old new n → LosesUpTo old new n
-LosesUpTo-count old new n h = record { front = h.front; few = let many = h.many in omega arith; lost = h.lost }
-
 pub LosesUpTo-whole : (old new : Option (List ℕ)) (bytes : List ℕ) (n : ℕ) → Loses old new bytes → length bytes ≤ n → LosesUpTo old new n
 LosesUpTo-whole old new bytes n h few = record { front = bytes; few = few; lost = h }
-
--- whether a refusal is want of memory
-is_memory : (refusal : PlaRefusal) → (refusal ≡ pla.NoMemory) ⊎ (refusal ≢ pla.NoMemory)
-is_memory pla.NoMemory = inl refl
-is_memory pla.TooLong = inr (λ e. cc)
-is_memory (pla.BadByte line) = inr (λ e. cc)
-is_memory (pla.UnknownWord line) = inr (λ e. cc)
-is_memory (pla.Unsupported line) = inr (λ e. cc)
-is_memory (pla.Repeated line) = inr (λ e. cc)
-is_memory (pla.BadNumber line) = inr (λ e. cc)
-is_memory (pla.Late line) = inr (λ e. cc)
-is_memory (pla.Missing line) = inr (λ e. cc)
-is_memory (pla.Inputs line) = inr (λ e. cc)
-is_memory (pla.Outputs line) = inr (λ e. cc)
-is_memory (pla.RowLength line) = inr (λ e. cc)
-is_memory (pla.BadDigit line) = inr (λ e. cc)
-is_memory (pla.Names line) = inr (λ e. cc)
-is_memory (pla.TooManyRows line) = inr (λ e. cc)
-is_memory (pla.Conflict output assign) = inr (λ e. cc)
 
 append-none : (xs : List ℕ) → xs ++ [] ≡ xs
 append-none [] = refl
@@ -67,14 +47,71 @@ whole_told None new bytes P h spent p = tt
 whole_told (Some before) None bytes P h spent p = absurd h
 whole_told (Some before) (Some after) bytes P h spent p = subst P (sym (h ∙ ap (λ l. bytes ++ l) spent ∙ append-none bytes)) p
 
--- a text that was read whole and is refused
-pub pla_ending : (refusal : PlaRefusal) (ending : Ending) (old new : Device) (bytes : List ℕ) → (refusal ≢ pla.NoMemory → ending ≡ Pla refusal) → (refusal ≡ pla.NoMemory → ending ≡ NoMemory)
-    → Loses old.told new.told bytes → IsSpent new.told → length bytes ≤ 4194304 → (refusal ≢ pla.NoMemory → Refused bytes refusal) → (refusal ≡ pla.TooLong → 4194304 < length bytes)
-    → EndsPla ending old new
-pla_ending refusal ending old new bytes as_refusal as_memory taken spent few refused long = elim (is_memory refusal) [
-  | inl memory ↦ subst (λ e. EndsPla e old new) (sym (as_memory memory)) tt
-  | inr other ↦
-      let here : EndsPla (Pla refusal) old new =
-      (other, whole_told old.told new.told bytes (λ b. Refused b refusal) taken spent (refused other), inr ((λ e. let more = long e in absurd (omega (arith, more, few))), spent)) in
-      subst (λ e. EndsPla e old new) (sym (as_refusal other)) here
+if_more : (told : Option (List ℕ)) (P Q : List ℕ → Type 0) → ((bytes : List ℕ) → P bytes → Q bytes) → IfSome told P → IfSome told Q
+if_more None P Q f h = tt
+if_more (Some bytes) P Q f h = f bytes h
+
+-- a source could not be read to the end of a text
+pub read_stops : {R : Type 0} (at : R → Refusal) (IsLong : R → Type 0) (IsRefusedText : List ℕ → R → Type 0) (most : ℕ) (c : Change) (long : R) → IsLong long
+    → ((bytes : List ℕ) → most < length bytes → IsRefusedText bytes long) → (fault : ReadFault) → IsReadRefusal most c.old c.new fault → EndsText at IsLong IsRefusedText most (unread (at long) fault) c
+read_stops at IsLong IsRefusedText most c long is_long refused read.Fault h = inr (inl (refl, h.0, h.1))
+read_stops at IsLong IsRefusedText most c long is_long refused read.TooLong h =
+    inl (long, refl, if_more c.old.told (λ b. most < length b) (λ b. IsRefusedText b long) refused (had_more c.old.told c.new.told most h.1), inl (is_long, h.1))
+read_stops at IsLong IsRefusedText most c long is_long refused read.NoMemory h = inr (inr (refl, h.1))
+
+-- a text that was read whole is refused, or memory was wanting for its value
+pub parse_stops : {R P : Type 0} (at : R → Refusal) (IsLong : R → Type 0) (IsRefusedText : List ℕ → R → Type 0) (most : ℕ) (c : Change) (into : P → R) (memory : P)
+    → ((r : P) → (r ≡ memory) ⊎ (r ≢ memory)) → (r : P) (e : Ending) (bytes : List ℕ) → (r ≢ memory → e ≡ Refused (at (into r))) → (r ≡ memory → e ≡ NoMemory)
+    → Loses c.old.told c.new.told bytes → IsSpent c.new.told → length bytes ≤ most → (r ≢ memory → IsRefusedText bytes (into r)) → EndsText at IsLong IsRefusedText most e c
+parse_stops at IsLong IsRefusedText most c into memory decide r e bytes as_refusal as_memory taken spent few refused = elim (decide r) [
+  | inl m ↦ inr (inr (as_memory m, LosesUpTo-whole c.old.told c.new.told bytes most taken few))
+  | inr o ↦
+      inl (
+        into r,
+        as_refusal o,
+        whole_told c.old.told c.new.told bytes (λ b. IsRefusedText b (into r)) taken spent (refused o),
+        inr (spent, LosesUpTo-whole c.old.told c.new.told bytes most taken few),
+      )
 ]
+
+-- whether a refusal is want of memory
+pub pla_memory : (refusal : PlaRefusal) → (refusal ≡ pla.NoMemory) ⊎ (refusal ≢ pla.NoMemory)
+pla_memory pla.NoMemory = inl refl
+pla_memory pla.TooLong = inr (λ e. cc)
+pla_memory (pla.BadByte line) = inr (λ e. cc)
+pla_memory (pla.UnknownWord line) = inr (λ e. cc)
+pla_memory (pla.Unsupported line) = inr (λ e. cc)
+pla_memory (pla.Repeated line) = inr (λ e. cc)
+pla_memory (pla.BadNumber line) = inr (λ e. cc)
+pla_memory (pla.Late line) = inr (λ e. cc)
+pla_memory (pla.Missing line) = inr (λ e. cc)
+pla_memory (pla.Inputs line) = inr (λ e. cc)
+pla_memory (pla.Outputs line) = inr (λ e. cc)
+pla_memory (pla.RowLength line) = inr (λ e. cc)
+pla_memory (pla.BadDigit line) = inr (λ e. cc)
+pla_memory (pla.Names line) = inr (λ e. cc)
+pla_memory (pla.TooManyRows line) = inr (λ e. cc)
+pla_memory (pla.Conflict output assign) = inr (λ e. cc)
+
+pub cnf_memory : (refusal : CnfRefusal) → (refusal ≡ cnf.NoMemory) ⊎ (refusal ≢ cnf.NoMemory)
+cnf_memory cnf.NoMemory = inl refl
+cnf_memory cnf.TooLong = inr (λ e. cc)
+cnf_memory (cnf.Header line) = inr (λ e. cc)
+cnf_memory (cnf.Literal line) = inr (λ e. cc)
+cnf_memory (cnf.Count line) = inr (λ e. cc)
+cnf_memory (cnf.Unended line) = inr (λ e. cc)
+cnf_memory (cnf.TooLarge line) = inr (λ e. cc)
+
+pub lrat_memory : (refusal : LratRefusal) → (refusal ≡ lrat.NoMemory) ⊎ (refusal ≢ lrat.NoMemory)
+lrat_memory lrat.NoMemory = inl refl
+lrat_memory (lrat.Word line) = inr (λ e. cc)
+lrat_memory (lrat.Form line) = inr (λ e. cc)
+
+pub report_memory : (refusal : ReportRefusal) → (refusal ≡ report.NoMemory) ⊎ (refusal ≢ report.NoMemory)
+report_memory report.NoMemory = inl refl
+report_memory (report.Header line) = inr (λ e. cc)
+report_memory (report.Inputs line) = inr (λ e. cc)
+report_memory (report.Block line) = inr (λ e. cc)
+report_memory (report.Grid line) = inr (λ e. cc)
+report_memory (report.Trailing line) = inr (λ e. cc)
+report_memory (report.Truncated line) = inr (λ e. cc)

@@ -3,13 +3,13 @@ pub mod ReplayedLaws
 pub mod InputsLaws
 pub mod VerifiedLaws
 pub mod PrintedLaws
-pub mod OutcomeLaws
-pub mod SettledLaws
-pub mod EndsLaws
-pub mod JudgedLaws
 pub mod WordsClap
 pub mod WordsLaws
 pub mod WordsNumbers
 pub mod WordsRules
 pub mod WordsTaken
 pub mod WordsTurns
+pub mod FinishLaws
+pub mod JudgeLaws
+pub mod SettledLaws
+pub mod CommandLaws

@@ -1,183 +1,162 @@
--- However the parts of a run end, the told texts of the job come to that, but for faults and want of memory.
-use Rattle.std.proofs.Common.{◌≡◌, ◌⊎◌, ℕ, inl, inr, List, [], refl, sym, ap, subst, Some}
+-- What the answers of a run say of told texts, and of refused words.
+use Rattle.std.proofs.Common.{◌≡◌, ◌⊎◌, inl, inr, refl, sym, ap, ◌∙◌, subst, true, false, Bool, Some, None}
+use Rattle.std.specs.Prelude.{IfSome}
 use Rattle.std.specs.declared.option.Option.{Option}
-use Rattle.wire_io.specs.Causes.{Device, Rose}
-use Rattle.wire_io.specs.Laws.{Gains-none}
-use Rattle.wire_io.specs.Told.{Gains}
-use Rattle.std.specs.Prelude.{codes}
-use Rattle.clause_core.specs.Cnf.{cnf_text}
-use Rattle.lattice_grid.specs.Rectangle.{Size}
-use Rattle.reach_encoding.specs.Encoding.{encoding}
-use Rattle.report_text.specs.Report.{report_text}
-use Rattle.four_lattice.specs.Ending.{status_of, note_text}
-use Rattle.four_lattice.specs.Lattices.{report_by}
-use Rattle.four_lattice.specs.Outcome.{Outcome, LatticesOf, realised_text, question_of, ComesTo}
-use Rattle.four_lattice.specs.Run.{Devices, EndsLattices, EndsEncoding, EndsVerify, EndsCheck, EndsSo, IsNoted, Answers, AreTold, InputFails, IsSettled, Settles}
-use Rattle.four_lattice.specs.declared.lattices.Construction.{Construction}
+use Rattle.four_lattice.specs.Ending.{status_of, refusal_status, note_text}
+use Rattle.four_lattice.specs.Devices.{Change}
+use Rattle.std.specs.Prelude.{List, slice_get}
+use Rattle.std.proofs.lemmas.Bool.{true≢false}
+use Rattle.clause_core.specs.Formula.{Formula}
+use Rattle.cube_core.specs.Function.{Function}
+use Rattle.lrat_replay.specs.declared.line.Line.{Line}
+use Rattle.pla_reader.specs.Parts.{Parts}
+use Rattle.report_text.specs.Report.{ReportParts}
+use Rattle.four_lattice.specs.Check.{IsAccepted, adds_empty}
+use Rattle.four_lattice.specs.Judge.{Texts, Task, Judgement, Refused as Refuses, Accepted, Lattices, Encoding, Realised, Refuted, Stage, Last, PlaRefuses, PlaGives, CnfRefuses, CnfGives, LratRefuses, LratGives, ReportRefuses, ReportGives, LacksOutput, LacksFunction, Denies, LinesRefuse, Comes, JobComes}
+use Rattle.four_lattice.specs.Lattices.{IsThere}
+use Rattle.four_lattice.specs.Verified.{IsVerified}
 use Rattle.four_lattice.specs.declared.lattices.Construction.TheVariants as construction
-use Rattle.four_lattice.specs.declared.status.Ending.{Ending}
-use Rattle.four_lattice.specs.declared.status.Ending.TheVariants.{Done, Words, Pla, NoSuchOutput, Cnf, ReadFault, WriteFault, NoMemory, SideTooLong, Report, Lrat, Denied, Step, Unfinished}
+use Rattle.four_lattice.specs.declared.ending.InputRefusal.{InputRefusal}
+use Rattle.four_lattice.specs.declared.ending.SideRefusal.{SideRefusal}
+use Rattle.four_lattice.specs.declared.ending.Unconfirmed.{Unconfirmed}
+use Rattle.four_lattice.specs.Run.{Devices, texts, IsBlank, HasWriteFault, Works, Ends, Answers, IsNoted, IsCutOff, SettlesRefusal, SettlesTask, IsDone, AreJudged}
+use Rattle.four_lattice.specs.Uses.{uses}
+use Rattle.four_lattice.specs.Work.{Does}
 use Rattle.four_lattice.specs.declared.status.Status.{Status}
+use Rattle.four_lattice.specs.declared.status.Status.TheVariants as status
+use Rattle.four_lattice.specs.declared.ending.Refusal.{Refusal}
+use Rattle.four_lattice.specs.declared.ending.Refusal.TheVariants as refusal
+use Rattle.four_lattice.specs.declared.ending.Ending.{Ending}
+use Rattle.four_lattice.specs.declared.ending.Ending.TheVariants.{Done, Undecided, Refused, ReadFault, WriteFault, NoMemory}
 use Rattle.four_lattice.specs.declared.words.Job.{Job}
-use Rattle.four_lattice.specs.declared.words.Job.TheVariants.{Pairs, Dual, Cnf as CnfJob, Verify, Check}
-use Rattle.four_lattice.proofs.OutcomeLaws.{lattices_once, encoding_once, verify_once, check_once}
+use Rattle.four_lattice.specs.declared.words.Job.TheVariants.{Pairs, Dual, Cnf, Verify, Check}
+use Rattle.four_lattice.proofs.JudgeLaws.{judged_once}
 
--- what the output got, and the note, after the run
-pub record Shows (result : Status) (d : Devices) (notes notes' : Device) (outcome : Outcome) : Type 0 where
-  pub is : result ≡ status_of outcome.ending
-  pub text : Gains d.out.told d.out'.told outcome.text
-  pub noted : IsNoted notes notes' (note_text outcome.ending)
+refused_apart : (r : Refusal) (task : Task) → Refuses r ≡ Accepted task → ⊥
+refused_apart r task e = cc
 
-settled_as : (Fails : Type 0) (result : Status) (d : Devices) (notes notes' : Device) (o outcome : Outcome) → o ≡ outcome → Shows result d notes notes' o → IsSettled Fails outcome result d notes notes'
-settled_as Fails result d notes notes' o outcome same shows =
-    let s = subst (Shows result d notes notes') same shows in
-    inr (inr (inr (s.is, s.text, s.noted)))
+refused_same : (r s : Refusal) → Refuses r ≡ Refuses s → r ≡ s
+refused_same r s e = cc
 
--- nothing was written
-no_text : (d : Devices) → d.out' ≡ d.out → Gains d.out.told d.out'.told []
-no_text d e = subst (λ o. Gains d.out.told o.told []) (sym e) (Gains-none d.out.told)
+accepted_same : (t u : Task) → Accepted t ≡ Accepted u → t ≡ u
+accepted_same t u e = cc
 
-refused_as : (ending : Ending) (result : Status) (d : Devices) (notes notes' : Device) → result ≡ status_of ending → d.out' ≡ d.out → IsNoted notes notes' (note_text ending)
-    → Shows result d notes notes' (record { ending = ending; text = [] })
-refused_as ending result d notes notes' is e noted = record { is = is; text = no_text d e; noted = noted }
+-- told texts that are refused
+pub settles_refusal : (asked : Option Job) (result : Status) (d : Devices) (notes : Change) → Answers asked result d notes → SettlesRefusal asked result d notes
+settles_refusal asked result d notes a r told = by_ending a.ending a.status_is a.finishes.ends a.noted where
+  no_work : (task : Task) → Comes IfSome asked (texts d) (Accepted task) → ⊥
+  no_work task h = refused_apart r task (judged_once asked (texts d) (Refuses r) (Accepted task) told h)
 
--- a report of lattices
-pub lattices_settle : (how : Construction) (output : Option ℕ) (ending : Ending) (result : Status) (d : Devices) (notes notes' : Device) → EndsLattices how output ending d
-    → result ≡ status_of ending → IsNoted notes notes' (note_text ending) → (bytes : List ℕ) → d.pla.told ≡ Some bytes → (outcome : Outcome)
-    → LatticesOf how output d.pla.told outcome
-    → IsSettled (Rose d.pla.faults d.pla'.faults) outcome result d notes notes'
-lattices_settle how output Done result d notes notes' ends is noted bytes t outcome comes =
-    settled_as (Rose d.pla.faults d.pla'.faults) result d notes notes' (record { ending = Done; text = report_text (report_by how output ends.0.parts) }) outcome
-    (lattices_once how output d.pla.told bytes t (record { ending = Done; text = report_text (report_by how output ends.0.parts) }) outcome (inr (ends.0.parts, ends.0.gives, inr (ends.0.there, refl, refl))) comes)
-    (record { is = is; text = ends.0.gained; noted = noted })
-lattices_settle how output Words result d notes notes' ends is noted bytes t outcome comes = absurd ends.0
-lattices_settle how output (Pla refusal) result d notes notes' ends is noted bytes t outcome comes =
-    settled_as (Rose d.pla.faults d.pla'.faults) result d notes notes' (record { ending = Pla refusal; text = [] }) outcome
-    (lattices_once how output d.pla.told bytes t (record { ending = Pla refusal; text = [] }) outcome (inl ((refusal, ends.0.1, refl), refl)) comes)
-    (refused_as (Pla refusal) result d notes notes' is ends.2 noted)
-lattices_settle how output NoSuchOutput result d notes notes' ends is noted bytes t outcome comes =
-    settled_as (Rose d.pla.faults d.pla'.faults) result d notes notes' (record { ending = NoSuchOutput; text = [] }) outcome
-    (lattices_once how output d.pla.told bytes t (record { ending = NoSuchOutput; text = [] }) outcome (inr (ends.0.parts, ends.0.gives, inl ((ends.0.lacks, refl), refl))) comes)
-    (refused_as NoSuchOutput result d notes notes' is ends.3 noted)
-lattices_settle how output (Cnf refusal) result d notes notes' ends is noted bytes t outcome comes = absurd ends.0
-lattices_settle how output ReadFault result d notes notes' ends is noted bytes t outcome comes = inr (inl (is, ends.0.0))
-lattices_settle how output WriteFault result d notes notes' ends is noted bytes t outcome comes =
-    let same = lattices_once how output d.pla.told bytes t (record { ending = Done; text = report_text (report_by how output ends.1.parts) }) outcome (inr (ends.1.parts, ends.1.gives, inr (ends.1.there, refl, refl))) comes in
-    inr (inr (inl (is, sym (ap (λ o. o.ending) same), ends.0)))
-lattices_settle how output NoMemory result d notes notes' ends is noted bytes t outcome comes = inl is
-lattices_settle how output SideTooLong result d notes notes' ends is noted bytes t outcome comes = absurd ends.0
-lattices_settle how output (Report refusal) result d notes notes' ends is noted bytes t outcome comes = absurd ends.0
-lattices_settle how output (Lrat refusal) result d notes notes' ends is noted bytes t outcome comes = absurd ends.0
-lattices_settle how output (Denied refusal) result d notes notes' ends is noted bytes t outcome comes = absurd ends.0
-lattices_settle how output (Step fault line) result d notes notes' ends is noted bytes t outcome comes = absurd ends.0
-lattices_settle how output (Unfinished line) result d notes notes' ends is noted bytes t outcome comes = absurd ends.0
+  by_ending : (ending : Ending) → result ≡ status_of ending → Ends (Comes IfSome asked (texts d)) (uses asked) ending d → IsNoted notes (note_text ending)
+      → IsCutOff asked result d ⊎ ((result ≡ status_of (Refused r)) × IsBlank d × IsNoted notes (note_text (Refused r)))
+  by_ending Done is ends noted = absurd (no_work ends.task ends.accepted)
+  by_ending Undecided is ends noted = absurd (no_work ends.task ends.accepted)
+  by_ending (Refused s) is ends noted =
+      let same : s ≡ r = sym (refused_same r s (judged_once asked (texts d) (Refuses r) (Refuses s) told ends.0)) in
+      inr (is ∙ ap (λ x. status_of (Refused x)) same, ends.1, subst (λ x. IsNoted notes (note_text (Refused x))) same noted)
+  by_ending ReadFault is ends noted = inl (inr (is, ends.0))
+  by_ending WriteFault is ends noted = absurd (no_work ends.1.task ends.1.accepted)
+  by_ending NoMemory is ends noted = inl (inl is)
 
--- `cnf`
-pub encoding_settle : (output : ℕ) (size : Size) (ending : Ending) (result : Status) (d : Devices) (notes notes' : Device) → EndsEncoding output size ending d
-    → result ≡ status_of ending → IsNoted notes notes' (note_text ending) → (bytes : List ℕ) → d.pla.told ≡ Some bytes → (outcome : Outcome)
-    → ComesTo (CnfJob output size) d.pla.told d.side.told outcome → IsSettled (Rose d.pla.faults d.pla'.faults) outcome result d notes notes'
-encoding_settle output size Done result d notes notes' ends is noted bytes t outcome comes =
-    settled_as (Rose d.pla.faults d.pla'.faults) result d notes notes' (record { ending = Done; text = cnf_text (encoding (question_of size ends.0.function)) }) outcome
-    (encoding_once output size d.pla.told d.side.told bytes t (record { ending = Done; text = cnf_text (encoding (question_of size ends.0.function)) }) outcome (inr (ends.0.parts, ends.0.gives, inr (ends.0.function, ends.0.there, (refl, refl)))) comes)
-    (record { is = is; text = ends.0.gained; noted = noted })
-encoding_settle output size Words result d notes notes' ends is noted bytes t outcome comes = absurd ends.0
-encoding_settle output size (Pla refusal) result d notes notes' ends is noted bytes t outcome comes =
-    settled_as (Rose d.pla.faults d.pla'.faults) result d notes notes' (record { ending = Pla refusal; text = [] }) outcome
-    (encoding_once output size d.pla.told d.side.told bytes t (record { ending = Pla refusal; text = [] }) outcome (inl ((refusal, ends.0.1, refl), refl)) comes)
-    (refused_as (Pla refusal) result d notes notes' is ends.2 noted)
-encoding_settle output size NoSuchOutput result d notes notes' ends is noted bytes t outcome comes =
-    settled_as (Rose d.pla.faults d.pla'.faults) result d notes notes' (record { ending = NoSuchOutput; text = [] }) outcome
-    (encoding_once output size d.pla.told d.side.told bytes t (record { ending = NoSuchOutput; text = [] }) outcome (inr (ends.0.parts, ends.0.gives, inl ((ends.0.lacks, refl), refl))) comes)
-    (refused_as NoSuchOutput result d notes notes' is ends.3 noted)
-encoding_settle output size (Cnf refusal) result d notes notes' ends is noted bytes t outcome comes = absurd ends.0
-encoding_settle output size ReadFault result d notes notes' ends is noted bytes t outcome comes = inr (inl (is, ends.0.0))
-encoding_settle output size WriteFault result d notes notes' ends is noted bytes t outcome comes =
-    let same = encoding_once output size d.pla.told d.side.told bytes t (record { ending = Done; text = cnf_text (encoding (question_of size ends.1.function)) }) outcome (inr (ends.1.parts, ends.1.gives, inr (ends.1.function, ends.1.there, (refl, refl)))) comes in
-    inr (inr (inl (is, sym (ap (λ o. o.ending) same), ends.0)))
-encoding_settle output size NoMemory result d notes notes' ends is noted bytes t outcome comes = inl is
-encoding_settle output size SideTooLong result d notes notes' ends is noted bytes t outcome comes = absurd ends.0
-encoding_settle output size (Report refusal) result d notes notes' ends is noted bytes t outcome comes = absurd ends.0
-encoding_settle output size (Lrat refusal) result d notes notes' ends is noted bytes t outcome comes = absurd ends.0
-encoding_settle output size (Denied refusal) result d notes notes' ends is noted bytes t outcome comes = absurd ends.0
-encoding_settle output size (Step fault line) result d notes notes' ends is noted bytes t outcome comes = absurd ends.0
-encoding_settle output size (Unfinished line) result d notes notes' ends is noted bytes t outcome comes = absurd ends.0
+-- told texts that are accepted
+pub settles_task : (asked : Option Job) (result : Status) (d : Devices) (notes : Change) → Answers asked result d notes → SettlesTask asked result d
+settles_task asked result d notes a task told = by_ending a.ending a.status_is a.finishes.ends where
+  same_task : (other : Task) → Comes IfSome asked (texts d) (Accepted other) → other ≡ task
+  same_task other h = sym (accepted_same task other (judged_once asked (texts d) (Accepted task) (Accepted other) told h))
 
--- `verify`
-pub verify_settle : (ending : Ending) (result : Status) (d : Devices) (notes notes' : Device) → EndsVerify ending d → result ≡ status_of ending → IsNoted notes notes' (note_text ending)
-    → (bytes text : List ℕ) → d.pla.told ≡ Some bytes → d.side.told ≡ Some text → (outcome : Outcome) → ComesTo Verify d.pla.told d.side.told outcome → IsSettled (Rose d.pla.faults d.pla'.faults ⊎ Rose d.side.faults d.side'.faults) outcome result d notes notes'
-verify_settle Done result d notes notes' ends is noted bytes text t u outcome comes =
-    settled_as (Rose d.pla.faults d.pla'.faults ⊎ Rose d.side.faults d.side'.faults) result d notes notes' (record { ending = Done; text = realised_text ends.0.report }) outcome
-    (verify_once d.pla.told d.side.told bytes text t u (record { ending = Done; text = realised_text ends.0.report }) outcome (inr (ends.0.parts, ends.0.gives, inr (ends.0.report, ends.0.spells, inr (ends.0.verified, refl, refl)))) comes)
-    (record { is = is; text = ends.0.gained; noted = noted })
-verify_settle Words result d notes notes' ends is noted bytes text t u outcome comes = elim ends [ inl h ↦ absurd h.0 | inr h ↦ absurd h.2 ]
-verify_settle (Pla refusal) result d notes notes' ends is noted bytes text t u outcome comes = elim ends [
-  | inl h ↦ settled_as (Rose d.pla.faults d.pla'.faults ⊎ Rose d.side.faults d.side'.faults) result d notes notes' (record { ending = Pla refusal; text = [] }) outcome (verify_once d.pla.told d.side.told bytes text t u (record { ending = Pla refusal; text = [] }) outcome (inl ((refusal, h.0.1, refl), refl)) comes) (refused_as (Pla refusal) result d notes notes' is h.2 noted)
-  | inr h ↦ absurd h.2
+  done : (undecided : Bool) → ((undecided ≡ false) × (result ≡ status.Done)) ⊎ ((undecided ≡ true) × (result ≡ status.Undecided))
+      → Works (Comes IfSome asked (texts d)) undecided d → IsDone task result d
+  done undecided is w = record {
+    written = w.written;
+    does = subst (λ t. Does t w.written) (same_task w.task w.accepted) w.does;
+    out = w.out;
+    journal = w.journal;
+    status_is = elim is [ inl h ↦ inl (w.decided ∙ h.0, h.1) | inr h ↦ inr (w.decided ∙ h.0, h.1) ];
+  }
+
+  by_ending : (ending : Ending) → result ≡ status_of ending → Ends (Comes IfSome asked (texts d)) (uses asked) ending d
+      → IsCutOff asked result d ⊎ (((result ≡ status.WriteFault) × HasWriteFault (uses asked) d) ⊎ IsDone task result d)
+  by_ending Done is ends = inr (inr (done false (inl (refl, is)) ends))
+  by_ending Undecided is ends = inr (inr (done true (inr (refl, is)) ends))
+  by_ending (Refused s) is ends = absurd (refused_apart s task (sym (judged_once asked (texts d) (Accepted task) (Refuses s) told ends.0)))
+  by_ending ReadFault is ends = inl (inr (is, ends.0))
+  by_ending WriteFault is ends = inr (inl (is, ends.0))
+  by_ending NoMemory is ends = inl (inl is)
+
+-- No stage of a job refuses its words.
+stage_words : (X : Type 0) (R : Refusal → Type 0) (G : X → Type 0) (next : X → Judgement → Type 0) → (R refusal.Words → ⊥) → ((x : X) → next x (Refuses refusal.Words) → ⊥)
+    → Stage X R G next (Refuses refusal.Words) → ⊥
+stage_words X R G next not_here not_later h = elim h [
+  | inl a ↦ not_here (subst R (sym (refused_same refusal.Words a.0 a.2)) a.1)
+  | inr b ↦ not_later b.0 b.2
 ]
-verify_settle NoSuchOutput result d notes notes' ends is noted bytes text t u outcome comes = elim ends [ inl h ↦ absurd h.0 | inr h ↦ absurd h.2 ]
-verify_settle (Cnf refusal) result d notes notes' ends is noted bytes text t u outcome comes = elim ends [ inl h ↦ absurd h.0 | inr h ↦ absurd h.2 ]
-verify_settle ReadFault result d notes notes' ends is noted bytes text t u outcome comes = elim ends [ inl h ↦ inr (inl (is, inl h.0.0)) | inr h ↦ inr (inl (is, inr h.2.0)) ]
-verify_settle WriteFault result d notes notes' ends is noted bytes text t u outcome comes =
-    let same = verify_once d.pla.told d.side.told bytes text t u (record { ending = Done; text = realised_text ends.1.report }) outcome (inr (ends.1.parts, ends.1.gives, inr (ends.1.report, ends.1.spells, inr (ends.1.verified, refl, refl)))) comes in
-    inr (inr (inl (is, sym (ap (λ o. o.ending) same), ends.0)))
-verify_settle NoMemory result d notes notes' ends is noted bytes text t u outcome comes = inl is
-verify_settle SideTooLong result d notes notes' ends is noted bytes text t u outcome comes = elim ends [
-  | inl h ↦ absurd h.0
-  | inr h ↦ settled_as (Rose d.pla.faults d.pla'.faults ⊎ Rose d.side.faults d.side'.faults) result d notes notes' (record { ending = SideTooLong; text = [] }) outcome (verify_once d.pla.told d.side.told bytes text t u (record { ending = SideTooLong; text = [] }) outcome (inr (h.0.0, h.0.1, inl (inl (h.2.0, refl), refl))) comes) (refused_as SideTooLong result d notes notes' is h.3 noted)
-]
-verify_settle (Report refusal) result d notes notes' ends is noted bytes text t u outcome comes = elim ends [
-  | inl h ↦ absurd h.0
-  | inr h ↦ settled_as (Rose d.pla.faults d.pla'.faults ⊎ Rose d.side.faults d.side'.faults) result d notes notes' (record { ending = Report refusal; text = [] }) outcome (verify_once d.pla.told d.side.told bytes text t u (record { ending = Report refusal; text = [] }) outcome (inr (h.0.0, h.0.1, inl (inr (refusal, h.2.1, refl), refl))) comes) (refused_as (Report refusal) result d notes notes' is h.3 noted)
-]
-verify_settle (Lrat refusal) result d notes notes' ends is noted bytes text t u outcome comes = elim ends [ inl h ↦ absurd h.0 | inr h ↦ absurd h.2 ]
-verify_settle (Denied refusal) result d notes notes' ends is noted bytes text t u outcome comes =
-    settled_as (Rose d.pla.faults d.pla'.faults ⊎ Rose d.side.faults d.side'.faults) result d notes notes' (record { ending = Denied refusal; text = [] }) outcome (verify_once d.pla.told d.side.told bytes text t u (record { ending = Denied refusal; text = [] }) outcome (inr (ends.0.parts, ends.0.gives, inr (ends.0.report, ends.0.spells, inl ((refusal, ends.0.refused, refl), refl)))) comes) (refused_as (Denied refusal) result d notes notes' is ends.2 noted)
-verify_settle (Step fault line) result d notes notes' ends is noted bytes text t u outcome comes = elim ends [ inl h ↦ absurd h.0 | inr h ↦ absurd h.2 ]
-verify_settle (Unfinished line) result d notes notes' ends is noted bytes text t u outcome comes = elim ends [ inl h ↦ absurd h.0 | inr h ↦ absurd h.2 ]
 
--- `check`
-pub check_settle : (ending : Ending) (result : Status) (d : Devices) (notes notes' : Device) → EndsCheck ending d → result ≡ status_of ending → IsNoted notes notes' (note_text ending)
-    → (bytes text : List ℕ) → d.pla.told ≡ Some bytes → d.side.told ≡ Some text → (outcome : Outcome) → ComesTo Check d.pla.told d.side.told outcome → IsSettled (Rose d.pla.faults d.pla'.faults ⊎ Rose d.side.faults d.side'.faults) outcome result d notes notes'
-check_settle Done result d notes notes' ends is noted bytes text t u outcome comes =
-    settled_as (Rose d.pla.faults d.pla'.faults ⊎ Rose d.side.faults d.side'.faults) result d notes notes' (record { ending = Done; text = codes "verified\n" }) outcome
-    (check_once d.pla.told d.side.told bytes text t u (record { ending = Done; text = codes "verified\n" }) outcome (inr (ends.0.0.formula, ends.0.0.gives, inr (ends.0.0.lines, ends.0.0.says, inr (ends.0.0.holds, refl, refl)))) comes)
-    (record { is = is; text = ends.0.1; noted = noted })
-check_settle Words result d notes notes' ends is noted bytes text t u outcome comes = elim ends [ inl h ↦ absurd h.0 | inr h ↦ absurd h.2 ]
-check_settle (Pla refusal) result d notes notes' ends is noted bytes text t u outcome comes = elim ends [ inl h ↦ absurd h.0 | inr h ↦ absurd h.2 ]
-check_settle NoSuchOutput result d notes notes' ends is noted bytes text t u outcome comes = elim ends [ inl h ↦ absurd h.0 | inr h ↦ absurd h.2 ]
-check_settle (Cnf refusal) result d notes notes' ends is noted bytes text t u outcome comes = elim ends [
-  | inl h ↦ settled_as (Rose d.pla.faults d.pla'.faults ⊎ Rose d.side.faults d.side'.faults) result d notes notes' (record { ending = Cnf refusal; text = [] }) outcome (check_once d.pla.told d.side.told bytes text t u (record { ending = Cnf refusal; text = [] }) outcome (inl ((refusal, h.0.1, refl), refl)) comes) (refused_as (Cnf refusal) result d notes notes' is h.2 noted)
-  | inr h ↦ absurd h.2
+last_words : (R : Refusal → Type 0) (Holds : Type 0) (task : Task) → (R refusal.Words → ⊥) → Last R Holds task (Refuses refusal.Words) → ⊥
+last_words R Holds task not_here h = elim h [
+  | inl a ↦ not_here (subst R (sym (refused_same refusal.Words a.0 a.2)) a.1)
+  | inr b ↦ refused_apart refusal.Words task b.1
 ]
-check_settle ReadFault result d notes notes' ends is noted bytes text t u outcome comes = elim ends [ inl h ↦ inr (inl (is, inl h.0.0)) | inr h ↦ inr (inl (is, inr h.2.0)) ]
-check_settle WriteFault result d notes notes' ends is noted bytes text t u outcome comes =
-    let same = check_once d.pla.told d.side.told bytes text t u (record { ending = Done; text = codes "verified\n" }) outcome (inr (ends.1.0.formula, ends.1.0.gives, inr (ends.1.0.lines, ends.1.0.says, inr (ends.1.0.holds, refl, refl)))) comes in
-    inr (inr (inl (is, sym (ap (λ o. o.ending) same), ends.0)))
-check_settle NoMemory result d notes notes' ends is noted bytes text t u outcome comes = inl is
-check_settle SideTooLong result d notes notes' ends is noted bytes text t u outcome comes = elim ends [
-  | inl h ↦ absurd h.0
-  | inr h ↦ settled_as (Rose d.pla.faults d.pla'.faults ⊎ Rose d.side.faults d.side'.faults) result d notes notes' (record { ending = SideTooLong; text = [] }) outcome (check_once d.pla.told d.side.told bytes text t u (record { ending = SideTooLong; text = [] }) outcome (inr (h.0.0, h.0.1, inl (inl (h.2.0, refl), refl))) comes) (refused_as SideTooLong result d notes notes' is h.3 noted)
-]
-check_settle (Report refusal) result d notes notes' ends is noted bytes text t u outcome comes = elim ends [ inl h ↦ absurd h.0 | inr h ↦ absurd h.2 ]
-check_settle (Lrat refusal) result d notes notes' ends is noted bytes text t u outcome comes = elim ends [
-  | inl h ↦ absurd h.0
-  | inr h ↦ settled_as (Rose d.pla.faults d.pla'.faults ⊎ Rose d.side.faults d.side'.faults) result d notes notes' (record { ending = Lrat refusal; text = [] }) outcome (check_once d.pla.told d.side.told bytes text t u (record { ending = Lrat refusal; text = [] }) outcome (inr (h.0.0, h.0.1, inl (inr (refusal, h.2.1, refl), refl))) comes) (refused_as (Lrat refusal) result d notes notes' is h.3 noted)
-]
-check_settle (Denied refusal) result d notes notes' ends is noted bytes text t u outcome comes = elim ends [ inl h ↦ absurd h.0 | inr h ↦ absurd h.2 ]
-check_settle (Step fault line) result d notes notes' ends is noted bytes text t u outcome comes =
-    settled_as (Rose d.pla.faults d.pla'.faults ⊎ Rose d.side.faults d.side'.faults) result d notes notes' (record { ending = Step fault line; text = [] }) outcome (check_once d.pla.told d.side.told bytes text t u (record { ending = Step fault line; text = [] }) outcome (inr (ends.0.formula, ends.0.gives, inr (ends.0.lines, ends.0.says, inl (inl (fault, line, ends.0.holds, refl), refl)))) comes) (refused_as (Step fault line) result d notes notes' is ends.2 noted)
-check_settle (Unfinished line) result d notes notes' ends is noted bytes text t u outcome comes =
-    settled_as (Rose d.pla.faults d.pla'.faults ⊎ Rose d.side.faults d.side'.faults) result d notes notes' (record { ending = Unfinished line; text = [] }) outcome (check_once d.pla.told d.side.told bytes text t u (record { ending = Unfinished line; text = [] }) outcome (inr (ends.0.formula, ends.0.gives, inr (ends.0.lines, ends.0.says, inl (inr (line, ends.0.holds, ends.1, refl), refl)))) comes) (refused_as (Unfinished line) result d notes notes' is ends.3 noted)
 
--- each job
-job_settles : (job : Job) (ending : Ending) (result : Status) (d : Devices) (notes notes' : Device) → EndsSo (Some job) ending d → result ≡ status_of ending → IsNoted notes notes' (note_text ending)
-    → AreTold job d → (outcome : Outcome) → ComesTo job d.pla.told d.side.told outcome → IsSettled (InputFails job d) outcome result d notes notes'
-job_settles (Pairs output) ending result d notes notes' ends is noted told outcome comes = lattices_settle construction.Pairs output ending result d notes notes' ends is noted told.0 told.1 outcome comes
-job_settles (Dual output) ending result d notes notes' ends is noted told outcome comes = lattices_settle construction.Dual output ending result d notes notes' ends is noted told.0 told.1 outcome comes
-job_settles (CnfJob output size) ending result d notes notes' ends is noted told outcome comes = encoding_settle output size ending result d notes notes' ends is noted told.0 told.1 outcome comes
-job_settles Verify ending result d notes notes' ends is noted told outcome comes = verify_settle ending result d notes notes' ends is noted told.0 told.1 told.2 told.3 outcome comes
-job_settles Check ending result d notes notes' ends is noted told outcome comes = check_settle ending result d notes notes' ends is noted told.0 told.1 told.2 told.3 outcome comes
+not_input : (r : InputRefusal) → refusal.Words ≡ refusal.Input r → ⊥
+not_input r e = cc
 
-pub answers_settle : (asked : Option Job) (result : Status) (d : Devices) (notes notes' : Device) → Answers asked result d notes notes' → Settles asked result d notes notes'
-answers_settle asked result d notes notes' a job is told outcome comes =
-    job_settles job a.ending result d notes notes' (subst (λ j. EndsSo j a.ending d) is a.ends) a.status_is a.noted told outcome comes
+not_side : (r : SideRefusal) → refusal.Words ≡ refusal.Side r → ⊥
+not_side r e = cc
+
+not_unconfirmed : (r : Unconfirmed) → refusal.Words ≡ refusal.Unconfirmed r → ⊥
+not_unconfirmed r e = cc
+
+no_words : (job : Job) (x : Texts) → JobComes IfSome job x (Refuses refusal.Words) → ⊥
+no_words (Pairs output) x h =
+    stage_words Parts (PlaRefuses IfSome x) (PlaGives IfSome x) (λ parts. Last (LacksOutput output parts) (IsThere output parts.outputs) (Lattices construction.Pairs output parts)) (λ p. not_input _ p.2)
+    (λ parts. last_words (LacksOutput output parts) (IsThere output parts.outputs) (Lattices construction.Pairs output parts) (λ p. not_input _ p.1)) h
+no_words (Dual output) x h =
+    stage_words Parts (PlaRefuses IfSome x) (PlaGives IfSome x) (λ parts. Last (LacksOutput output parts) (IsThere output parts.outputs) (Lattices construction.Dual output parts)) (λ p. not_input _ p.2)
+    (λ parts. last_words (LacksOutput output parts) (IsThere output parts.outputs) (Lattices construction.Dual output parts) (λ p. not_input _ p.1)) h
+no_words (Cnf output size) x h =
+    stage_words Parts (PlaRefuses IfSome x) (PlaGives IfSome x)
+    (λ parts. Stage Function (LacksFunction output parts) (λ f. slice_get parts.functions output ≡ Some f) (λ f j. j ≡ Accepted (Encoding size f))) (λ p. not_input _ p.2)
+    (λ parts. stage_words Function (LacksFunction output parts) (λ f. slice_get parts.functions output ≡ Some f) (λ f j. j ≡ Accepted (Encoding size f)) (λ p. not_input _ p.1)
+    (λ f e. refused_apart refusal.Words (Encoding size f) e)) h
+no_words Verify x h =
+    stage_words Parts (PlaRefuses IfSome x) (PlaGives IfSome x)
+    (λ parts. Stage ReportParts (ReportRefuses IfSome x) (ReportGives IfSome x) (λ report. Last (Denies parts report) (IsVerified parts report) (Realised report))) (λ p. not_input _ p.2)
+    (λ parts. stage_words ReportParts (ReportRefuses IfSome x) (ReportGives IfSome x) (λ report. Last (Denies parts report) (IsVerified parts report) (Realised report)) (λ p. not_side _ p.2)
+    (λ report. last_words (Denies parts report) (IsVerified parts report) (Realised report) (λ p. not_unconfirmed _ p.2))) h
+no_words Check x h =
+    stage_words Formula (CnfRefuses IfSome x) (CnfGives IfSome x)
+    (λ formula. Stage (List Line) (LratRefuses IfSome x) (LratGives IfSome x) (λ lines. Last (LinesRefuse IfSome x formula lines) (IsAccepted formula lines × (adds_empty formula lines ≡ true)) Refuted)) (λ p. not_input _ p.2)
+    (λ formula. stage_words (List Line) (LratRefuses IfSome x) (LratGives IfSome x) (λ lines. Last (LinesRefuse IfSome x formula lines) (IsAccepted formula lines × (adds_empty formula lines ≡ true)) Refuted) (λ p. not_side _ p.2)
+    (λ lines. last_words (LinesRefuse IfSome x formula lines) (IsAccepted formula lines × (adds_empty formula lines ≡ true)) Refuted (λ p. elim p.2 [ inl a ↦ not_unconfirmed _ a.3 | inr b ↦ not_unconfirmed _ b.2 ]))) h
+
+refused_words : (asked : Option Job) (x : Texts) → Comes IfSome asked x (Refuses refusal.Words) → asked ≡ None
+refused_words None x h = refl
+refused_words (Some job) x h = absurd (no_words job x h)
+
+words_status : (r : Refusal) → refusal_status r ≡ status.Words → r ≡ refusal.Words
+words_status refusal.Words e = refl
+words_status (refusal.Input r) e = absurd cc
+words_status (refusal.Side r) e = absurd cc
+words_status (refusal.Unconfirmed r) e = absurd cc
+
+-- refused words
+pub judged_words : (asked : Option Job) (result : Status) (d : Devices) (notes : Change) → Answers asked result d notes → AreJudged asked result
+judged_words asked result d notes a = record {
+  refused = λ e. only a.ending (sym a.status_is ∙ e) a.finishes.ends;
+  judged = λ none. always a.ending a.status_is (subst (λ o. Ends (Comes IfSome o (texts d)) (uses o) a.ending d) none a.finishes.ends);
+} where
+  only : (ending : Ending) → status_of ending ≡ status.Words → Ends (Comes IfSome asked (texts d)) (uses asked) ending d → asked ≡ None
+  only Done e ends = absurd cc
+  only Undecided e ends = absurd cc
+  only (Refused r) e ends = refused_words asked (texts d) (subst (λ s. Comes IfSome asked (texts d) (Refuses s)) (words_status r e) ends.0)
+  only ReadFault e ends = absurd cc
+  only WriteFault e ends = absurd cc
+  only NoMemory e ends = absurd cc
+
+  always : (ending : Ending) → result ≡ status_of ending → Ends (Comes IfSome None (texts d)) (uses None) ending d → (result ≡ status.Words) ⊎ (result ≡ status.NoMemory)
+  always Done is ends = absurd (refused_apart refusal.Words ends.task (sym ends.accepted))
+  always Undecided is ends = absurd (refused_apart refusal.Words ends.task (sym ends.accepted))
+  always (Refused r) is ends = inl (is ∙ ap refusal_status (refused_same r refusal.Words ends.0))
+  always ReadFault is ends = elim ends.0 [ inl h ↦ absurd (true≢false (sym h.0)) | inr h ↦ absurd (true≢false (sym h.0)) ]
+  always WriteFault is ends = absurd (refused_apart refusal.Words ends.1.task (sym ends.1.accepted))
+  always NoMemory is ends = inr is

@@ -1,12 +1,10 @@
 -- When steps refute a formula line by line, and which line is the first that does not.
-use Rattle.std.specs.Prelude.{◌≡◌, ℕ, ◌+◌, ◌==◌, Bool, false, List, ◌∷◌, ◌++◌, map, count_by, Some}
+use Rattle.std.specs.Prelude.{◌≡◌, ℕ, ◌+◌, ◌==◌, Bool, List, ◌∷◌, ◌++◌, map, count_by, Some}
 use Rattle.clause_core.specs.Formula.{Formula}
 use Rattle.lrat_replay.specs.declared.line.Line.{Line}
 use Rattle.lrat_replay.specs.declared.line.LineKind.{LineKind}
 use Rattle.lrat_replay.specs.declared.fault.StepFault.{StepFault}
 use Rattle.lrat_replay.specs.Book.{Book, Accepts, start, line_fault, after_lines, some_empty}
-use Rattle.four_lattice.specs.declared.status.Ending.{Ending}
-use Rattle.four_lattice.specs.declared.status.Ending.TheVariants.{NoMemory, Step, Unfinished}
 
 -- what the lines do, one after the other
 abbrev pub kinds_of : List Line → List LineKind
@@ -33,10 +31,3 @@ adds_empty formula lines = some_empty (after_lines (start formula) (kinds_of lin
 -- the number of the line on which a text ends
 abbrev pub end_line : List ℕ → ℕ
 end_line text = count_by (λ b. b == 10) text + 1
-
--- Why the lines do not refute the formula; the last number is that of the line on which their text ends.
-abbrev pub EndsLines : Ending → Formula → List Line → ℕ → Type 0
-EndsLines (Step fault line) formula lines last = IsFirstFault (start formula) lines fault line
-EndsLines (Unfinished line) formula lines last = IsAccepted formula lines × (adds_empty formula lines ≡ false) × (line ≡ last)
-EndsLines NoMemory formula lines last = Unit {0}
-EndsLines _ formula lines last = ⊥

@@ -5,6 +5,7 @@ use Rattle.clause_core.specs.declared.refusal.CnfRefusal.{CnfRefusal}
 use Rattle.clause_core.specs.declared.refusal.CnfRefusal.TheVariants as cnf
 use Rattle.lrat_replay.specs.declared.fault.StepFault.{StepFault}
 use Rattle.lrat_replay.specs.declared.fault.StepFault.TheVariants as fault
+use Rattle.lrat_replay.specs.declared.refusal.LratRefusal.{LratRefusal}
 use Rattle.lrat_replay.specs.declared.refusal.LratRefusal.TheVariants as lrat
 use Rattle.pla_reader.specs.declared.pla.PlaRefusal.{PlaRefusal}
 use Rattle.pla_reader.specs.declared.pla.PlaRefusal.TheVariants as pla
@@ -12,28 +13,35 @@ use Rattle.report_text.specs.declared.report.ReportRefusal.{ReportRefusal}
 use Rattle.report_text.specs.declared.report.ReportRefusal.TheVariants as report
 use Rattle.four_lattice.specs.declared.verify.VerifyRefusal.{VerifyRefusal}
 use Rattle.four_lattice.specs.declared.verify.VerifyRefusal.TheVariants as verify
-use Rattle.four_lattice.specs.declared.status.Spot.{Spot}
-use Rattle.four_lattice.specs.declared.status.Spot.TheVariants.{Nowhere, At, AssignmentAt, AssignmentOf}
+use Rattle.four_lattice.specs.declared.notes.Spot.{Spot}
+use Rattle.four_lattice.specs.declared.notes.Spot.TheVariants.{Nowhere, At, AssignmentAt, AssignmentOf}
 use Rattle.four_lattice.specs.declared.status.Status.{Status}
 use Rattle.four_lattice.specs.declared.status.Status.TheVariants as status
-use Rattle.four_lattice.specs.declared.status.Ending.{Ending}
-use Rattle.four_lattice.specs.declared.status.Ending.TheVariants.{Done, Words, Pla, NoSuchOutput, Cnf, ReadFault, WriteFault, NoMemory, SideTooLong, Report, Lrat, Denied, Step, Unfinished}
+use Rattle.four_lattice.specs.declared.ending.InputRefusal.{InputRefusal}
+use Rattle.four_lattice.specs.declared.ending.InputRefusal.TheVariants.{Pla, NoSuchOutput, Cnf}
+use Rattle.four_lattice.specs.declared.ending.SideRefusal.{SideRefusal}
+use Rattle.four_lattice.specs.declared.ending.SideRefusal.TheVariants.{TooLong, Report, Lrat}
+use Rattle.four_lattice.specs.declared.ending.Unconfirmed.{Unconfirmed}
+use Rattle.four_lattice.specs.declared.ending.Unconfirmed.TheVariants.{Denied, Step, Unfinished}
+use Rattle.four_lattice.specs.declared.ending.Refusal.{Refusal}
+use Rattle.four_lattice.specs.declared.ending.Refusal.TheVariants as refusal
+use Rattle.four_lattice.specs.declared.ending.Ending.{Ending}
+use Rattle.four_lattice.specs.declared.ending.Ending.TheVariants.{Done, Undecided, Refused, ReadFault, WriteFault, NoMemory}
+
+-- the status of a refusal, by its level
+abbrev pub refusal_status : Refusal → Status
+refusal_status refusal.Words = status.Words
+refusal_status (refusal.Input r) = status.Input
+refusal_status (refusal.Side r) = status.Side
+refusal_status (refusal.Unconfirmed r) = status.Unconfirmed
 
 abbrev pub status_of : Ending → Status
 status_of Done = status.Done
-status_of Words = status.Words
-status_of (Pla refusal) = status.Input
-status_of NoSuchOutput = status.Input
-status_of (Cnf refusal) = status.Input
+status_of Undecided = status.Undecided
+status_of (Refused r) = refusal_status r
 status_of ReadFault = status.ReadFault
 status_of WriteFault = status.WriteFault
 status_of NoMemory = status.NoMemory
-status_of SideTooLong = status.Side
-status_of (Report refusal) = status.Side
-status_of (Lrat refusal) = status.Side
-status_of (Denied refusal) = status.Unconfirmed
-status_of (Step fault line) = status.Unconfirmed
-status_of (Unfinished line) = status.Unconfirmed
 
 abbrev pub number_of : Status → ℕ
 number_of status.Done = 0
@@ -127,62 +135,87 @@ step_name fault.Tautology = codes "Tautology"
 step_name fault.Variable = codes "Variable"
 step_name fault.NoMemory = codes "NoMemory"
 
+abbrev pub lrat_name : LratRefusal → List ℕ
+lrat_name (lrat.Word line) = codes "Word"
+lrat_name (lrat.Form line) = codes "Form"
+lrat_name lrat.NoMemory = codes "NoMemory"
+
+-- where a refusal of a CNF lies
+abbrev pub cnf_spot : CnfRefusal → Spot
+cnf_spot (cnf.Header line) = At line
+cnf_spot (cnf.Literal line) = At line
+cnf_spot (cnf.Count line) = At line
+cnf_spot (cnf.Unended line) = At line
+cnf_spot cnf.TooLong = Nowhere
+cnf_spot (cnf.TooLarge line) = At line
+cnf_spot cnf.NoMemory = Nowhere
+
+-- where a refusal of a report lies
+abbrev pub report_spot : ReportRefusal → Spot
+report_spot (report.Header line) = At line
+report_spot (report.Inputs line) = At line
+report_spot (report.Block line) = At line
+report_spot (report.Grid line) = At line
+report_spot (report.Trailing line) = At line
+report_spot (report.Truncated line) = At line
+report_spot report.NoMemory = Nowhere
+
+-- where a refusal of the lines of a proof lies
+abbrev pub lrat_spot : LratRefusal → Spot
+lrat_spot (lrat.Word line) = At line
+lrat_spot (lrat.Form line) = At line
+lrat_spot lrat.NoMemory = Nowhere
+
+abbrev pub input_name : InputRefusal → List ℕ
+input_name (Pla r) = pla_name r
+input_name NoSuchOutput = codes "NoSuchOutput"
+input_name (Cnf r) = cnf_name r
+
+abbrev pub input_spot : InputRefusal → Spot
+input_spot (Pla r) = pla_spot r
+input_spot NoSuchOutput = Nowhere
+input_spot (Cnf r) = cnf_spot r
+
+abbrev pub side_name : SideRefusal → List ℕ
+side_name TooLong = codes "TooLong"
+side_name (Report r) = report_name r
+side_name (Lrat r) = lrat_name r
+
+abbrev pub side_spot : SideRefusal → Spot
+side_spot TooLong = Nowhere
+side_spot (Report r) = report_spot r
+side_spot (Lrat r) = lrat_spot r
+
+abbrev pub unconfirmed_name : Unconfirmed → List ℕ
+unconfirmed_name (Denied r) = verify_name r
+unconfirmed_name (Step f line) = step_name f
+unconfirmed_name (Unfinished line) = codes "Unfinished"
+
+abbrev pub unconfirmed_spot : Unconfirmed → Spot
+unconfirmed_spot (Denied r) = verify_spot r
+unconfirmed_spot (Step f line) = At line
+unconfirmed_spot (Unfinished line) = At line
+
 -- what the line of notes begins with
-abbrev pub lead_of : Ending → List ℕ
-lead_of Done = []
-lead_of Words = codes "words refused"
-lead_of (Pla refusal) = codes "input refused: "
-lead_of NoSuchOutput = codes "input refused: "
-lead_of (Cnf refusal) = codes "input refused: "
-lead_of ReadFault = codes "read fault"
-lead_of WriteFault = codes "write fault"
-lead_of NoMemory = codes "want of memory"
-lead_of SideTooLong = codes "side refused: "
-lead_of (Report refusal) = codes "side refused: "
-lead_of (Lrat refusal) = codes "side refused: "
-lead_of (Denied refusal) = codes "not confirmed: "
-lead_of (Step fault line) = codes "not confirmed: "
-lead_of (Unfinished line) = codes "not confirmed: "
+abbrev pub lead_of : Refusal → List ℕ
+lead_of refusal.Words = codes "words refused"
+lead_of (refusal.Input r) = codes "input refused: "
+lead_of (refusal.Side r) = codes "side refused: "
+lead_of (refusal.Unconfirmed r) = codes "not confirmed: "
 
 -- the name of what is refused
-abbrev pub name_of : Ending → List ℕ
-name_of Done = []
-name_of Words = []
-name_of (Pla refusal) = pla_name refusal
-name_of NoSuchOutput = codes "NoSuchOutput"
-name_of (Cnf refusal) = cnf_name refusal
-name_of ReadFault = []
-name_of WriteFault = []
-name_of NoMemory = []
-name_of SideTooLong = codes "TooLong"
-name_of (Report refusal) = report_name refusal
-name_of (Lrat (lrat.Word line)) = codes "Word"
-name_of (Lrat (lrat.Form line)) = codes "Form"
-name_of (Lrat lrat.NoMemory) = codes "NoMemory"
-name_of (Denied refusal) = verify_name refusal
-name_of (Step fault line) = step_name fault
-name_of (Unfinished line) = codes "Unfinished"
+abbrev pub refusal_name : Refusal → List ℕ
+refusal_name refusal.Words = []
+refusal_name (refusal.Input r) = input_name r
+refusal_name (refusal.Side r) = side_name r
+refusal_name (refusal.Unconfirmed r) = unconfirmed_name r
 
 -- where what is refused lies
-abbrev pub spot_of : Ending → Spot
-spot_of (Pla refusal) = pla_spot refusal
-spot_of (Cnf (cnf.Header line)) = At line
-spot_of (Cnf (cnf.Literal line)) = At line
-spot_of (Cnf (cnf.Count line)) = At line
-spot_of (Cnf (cnf.Unended line)) = At line
-spot_of (Cnf (cnf.TooLarge line)) = At line
-spot_of (Report (report.Header line)) = At line
-spot_of (Report (report.Inputs line)) = At line
-spot_of (Report (report.Block line)) = At line
-spot_of (Report (report.Grid line)) = At line
-spot_of (Report (report.Trailing line)) = At line
-spot_of (Report (report.Truncated line)) = At line
-spot_of (Lrat (lrat.Word line)) = At line
-spot_of (Lrat (lrat.Form line)) = At line
-spot_of (Denied refusal) = verify_spot refusal
-spot_of (Step fault line) = At line
-spot_of (Unfinished line) = At line
-spot_of _ = Nowhere
+abbrev pub refusal_spot : Refusal → Spot
+refusal_spot refusal.Words = Nowhere
+refusal_spot (refusal.Input r) = input_spot r
+refusal_spot (refusal.Side r) = side_spot r
+refusal_spot (refusal.Unconfirmed r) = unconfirmed_spot r
 
 -- the place, and the end of the line
 abbrev pub spot_text : Spot → List ℕ
@@ -198,4 +231,8 @@ said lead name spot = lead ++ (name ++ spot_text spot)
 -- the line of notes: none where the work was done
 abbrev pub note_text : Ending → List ℕ
 note_text Done = []
-note_text ending = said (lead_of ending) (name_of ending) (spot_of ending)
+note_text Undecided = []
+note_text (Refused r) = said (lead_of r) (refusal_name r) (refusal_spot r)
+note_text ReadFault = codes "read fault\n"
+note_text WriteFault = codes "write fault\n"
+note_text NoMemory = codes "want of memory\n"

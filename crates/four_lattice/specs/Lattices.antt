@@ -9,6 +9,8 @@ use Rattle.dual_product.specs.Dual.{dual_of}
 use Rattle.pla_reader.specs.Parts.{Parts}
 use Rattle.report_text.specs.declared.answer.Answer.TheVariants.{Found}
 use Rattle.report_text.specs.Report.{BlockParts, ReportParts}
+use Rattle.four_lattice.specs.declared.ending.Ending.{Ending}
+use Rattle.four_lattice.specs.declared.ending.Ending.TheVariants as ending
 use Rattle.four_lattice.specs.declared.lattices.Construction.{Construction}
 use Rattle.four_lattice.specs.declared.lattices.Construction.TheVariants.{Pairs, Dual}
 use Rattle.four_lattice.specs.declared.lattices.WorkFault.{WorkFault}
@@ -43,3 +45,8 @@ report_by how output parts = record { input_names = parts.input_names; blocks = 
 abbrev pub IsWriteCause : ℕ → ℕ → WorkFault → Type 0
 IsWriteCause before now Write = Rose before now
 IsWriteCause before now NoMemory = Unit {0}
+
+-- how a run ends whose work stopped so
+abbrev pub ending_of_fault : WorkFault → Ending
+ending_of_fault Write = ending.WriteFault
+ending_of_fault NoMemory = ending.NoMemory

@@ -1,10 +1,14 @@
 pub mod Ending
+pub mod Uses
 pub mod Words
 pub mod WordsParts
 pub mod Check
 pub mod Checked
+pub mod Devices
+pub mod Judge
 pub mod Inputs
 pub mod Lattices
 pub mod Verified
-pub mod Outcome
+pub mod Work
 pub mod Run
+pub mod Laws

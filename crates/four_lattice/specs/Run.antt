@@ -1,207 +1,169 @@
 -- What a run answers.
-use Rattle.std.specs.Prelude.{◌≡◌, ℕ, ◌≤◌, ◌⊎◌, true, false, List, map, codes, string_bytes, String, Some, None, IfSome, slice_get}
+use Rattle.std.specs.Prelude.{◌≡◌, ℕ, ◌≤◌, ◌⊎◌, Bool, true, false, List, map, string_bytes, String, None, IfSome, IsSomeAnd}
 use Rattle.std.specs.Global.{Global}
 use Rattle.std.specs.declared.option.Option.{Option}
-use Rattle.clause_core.specs.Cnf.{cnf_text}
-use Rattle.clause_core.specs.Formula.{Formula}
-use Rattle.cube_core.specs.Function.{Function}
-use Rattle.lattice_grid.specs.Rectangle.{Size}
-use Rattle.reach_encoding.specs.Encoding.{encoding}
-use Rattle.lrat_replay.specs.declared.line.Line.{Line}
-use Rattle.lrat_replay.specs.Book.{start}
-use Rattle.wire_io.specs.Causes.{Device, Rose}
-use Rattle.wire_io.specs.Told.{Gains, GainsFront, IsSpent}
-use Rattle.pla_reader.specs.Parts.{Parts}
-use Rattle.report_text.specs.Report.{ReportParts, report_text}
-use Rattle.four_lattice.specs.Check.{IsAccepted, IsFirstFault, adds_empty, end_line}
+use Rattle.clause_core.specs.declared.refusal.CnfRefusal.TheVariants as cnf
+use Rattle.pla_reader.specs.declared.pla.PlaRefusal.TheVariants as pla
+use Rattle.wire_io.specs.Told.{Gains, GainsFront, IsSpent, LosesUpTo}
+use Rattle.wire_io.specs.Causes.{Device}
+use Rattle.four_lattice.specs.Devices.{Change, still, Failed, IsReadFor}
 use Rattle.four_lattice.specs.Ending.{status_of, note_text}
-use Rattle.four_lattice.specs.Inputs.{EndsPla, EndsCnf, EndsLrat, EndsReport}
-use Rattle.four_lattice.specs.Lattices.{IsThere, report_by}
-use Rattle.four_lattice.specs.Outcome.{Outcome, PlaGives, CnfGives, LratGives, ReportGives, realised_text, question_of, ComesTo}
-use Rattle.four_lattice.specs.Verified.{IsVerified, IsDenied}
+use Rattle.four_lattice.specs.Judge.{Texts, Task, Judgement, Refused as Refuses, Accepted, Comes}
+use Rattle.four_lattice.specs.Uses.{Uses, uses, most_bytes, most_side_bytes}
+use Rattle.four_lattice.specs.Work.{Written, Does, Begins}
 use Rattle.four_lattice.specs.Words.{job_of}
-use Rattle.four_lattice.specs.declared.lattices.Construction.{Construction}
-use Rattle.four_lattice.specs.declared.lattices.Construction.TheVariants as construction
 use Rattle.four_lattice.specs.declared.words.Job.{Job}
-use Rattle.four_lattice.specs.declared.words.Job.TheVariants.{Pairs, Dual, Cnf, Verify, Check}
 use Rattle.four_lattice.specs.declared.status.Status.{Status}
 use Rattle.four_lattice.specs.declared.status.Status.TheVariants as status
-use Rattle.four_lattice.specs.declared.status.Ending.{Ending}
-use Rattle.four_lattice.specs.declared.status.Ending.TheVariants.{Done, Words, NoSuchOutput, WriteFault, NoMemory, Denied, Step, Unfinished}
+use Rattle.four_lattice.specs.declared.ending.InputRefusal.{InputRefusal}
+use Rattle.four_lattice.specs.declared.ending.InputRefusal.TheVariants.{Pla, NoSuchOutput, Cnf}
+use Rattle.four_lattice.specs.declared.ending.SideRefusal.{SideRefusal}
+use Rattle.four_lattice.specs.declared.ending.SideRefusal.TheVariants.{TooLong}
+use Rattle.four_lattice.specs.declared.ending.Refusal.{Refusal}
+use Rattle.four_lattice.specs.declared.ending.Refusal.TheVariants.{Words, Input, Side, Unconfirmed}
+use Rattle.four_lattice.specs.declared.ending.Ending.{Ending}
+use Rattle.four_lattice.specs.declared.ending.Ending.TheVariants.{Done, Undecided, Refused, ReadFault, WriteFault, NoMemory}
 
 -- the job that the words ask for
 abbrev pub job_asked : List (String Global) → Option Job
 job_asked words = job_of (map string_bytes words)
 
--- the devices of a run, before and after
+-- the devices of a run but that of the notes
 pub record Devices : Type 0 where
-  pub pla : Device
-  pub pla' : Device
-  pub side : Device
-  pub side' : Device
-  pub out : Device
-  pub out' : Device
+  pub pla : Change
+  pub side : Change
+  pub out : Change
+  pub journal : Change
 
--- The PLA has the chosen outputs, the report of their lattices verifies, and the sink gained it, or a front of it.
-pub record Reports (how : Construction) (output : Option ℕ) (d : Devices) (Takes : Option (List ℕ) → Option (List ℕ) → List ℕ → Type 0) : Type 0 where
-  pub parts : Parts
-  pub gives : PlaGives d.pla.told parts
-  pub there : IsThere output parts.outputs
-  pub verified : IsVerified parts (report_by how output parts)
-  pub gained : Takes d.out.told d.out'.told (report_text (report_by how output parts))
+-- the devices of a command that does not call the journal
+abbrev pub quiet : Change → Change → Change → Device → Devices
+quiet pla side out journal = record { pla = pla; side = side; out = out; journal = still journal }
 
--- The PLA has not the chosen output.
-pub record HasNoOutput (output : Option ℕ) (d : Devices) : Type 0 where
-  pub parts : Parts
-  pub gives : PlaGives d.pla.told parts
-  pub lacks : IsThere output parts.outputs → ⊥
+-- the texts of the sources before the run
+abbrev pub texts : Devices → Texts
+texts d = record { pla = d.pla.old.told; side = d.side.old.told }
 
--- How a report of lattices ends. The side is not called; nothing is written before the PLA is read.
-abbrev pub EndsLattices : Construction → Option ℕ → Ending → Devices → Type 0
-EndsLattices how output Done d = Reports how output d Gains × IsSpent d.pla'.told × (d.side' ≡ d.side)
-EndsLattices how output WriteFault d = Rose d.out.faults d.out'.faults × Reports how output d GainsFront × IsSpent d.pla'.told × (d.side' ≡ d.side)
-EndsLattices how output NoMemory d = ((d.out' ≡ d.out) ⊎ Reports how output d GainsFront) × (d.side' ≡ d.side)
-EndsLattices how output NoSuchOutput d = HasNoOutput output d × IsSpent d.pla'.told × (d.side' ≡ d.side) × (d.out' ≡ d.out)
-EndsLattices how output ending d = EndsPla ending d.pla d.pla' × (d.side' ≡ d.side) × (d.out' ≡ d.out)
+-- Nothing was written.
+abbrev pub IsBlank : Devices → Type 0
+IsBlank d = (d.out.new ≡ d.out.old) × (d.journal.new ≡ d.journal.old)
 
--- The PLA has the output, and the sink gained the text of the formula of this size for it, or a front of it.
-pub record Encodes (output : ℕ) (size : Size) (d : Devices) (Takes : Option (List ℕ) → Option (List ℕ) → List ℕ → Type 0) : Type 0 where
-  pub parts : Parts
-  pub function : Function
-  pub gives : PlaGives d.pla.told parts
-  pub there : slice_get parts.functions output ≡ Some function
-  pub gained : Takes d.out.told d.out'.told (cnf_text (encoding (question_of size function)))
+-- A source that the command names failed.
+abbrev pub HasReadFault : Uses → Devices → Type 0
+HasReadFault u d = ((u.pla ≡ true) × Failed d.pla) ⊎ ((u.side ≡ true) × Failed d.side)
 
--- The PLA has not the output.
-pub record HasNoFunction (output : ℕ) (d : Devices) : Type 0 where
-  pub parts : Parts
-  pub gives : PlaGives d.pla.told parts
-  pub lacks : slice_get parts.functions output ≡ None
+-- A sink that the command names failed.
+abbrev pub HasWriteFault : Uses → Devices → Type 0
+HasWriteFault u d = Failed d.out ⊎ ((u.journal ≡ true) × Failed d.journal)
 
--- How `cnf` ends. The side is not called; nothing is written before the PLA is read.
-abbrev pub EndsEncoding : ℕ → Size → Ending → Devices → Type 0
-EndsEncoding output size Done d = Encodes output size d Gains × IsSpent d.pla'.told × (d.side' ≡ d.side)
-EndsEncoding output size WriteFault d = Rose d.out.faults d.out'.faults × Encodes output size d GainsFront × IsSpent d.pla'.told × (d.side' ≡ d.side)
-EndsEncoding output size NoMemory d = ((d.out' ≡ d.out) ⊎ Encodes output size d GainsFront) × (d.side' ≡ d.side)
-EndsEncoding output size NoSuchOutput d = HasNoFunction output d × IsSpent d.pla'.told × (d.side' ≡ d.side) × (d.out' ≡ d.out)
-EndsEncoding output size ending d = EndsPla ending d.pla d.pla' × (d.side' ≡ d.side) × (d.out' ≡ d.out)
+-- The texts are accepted as a task, and the sinks gained what it writes.
+pub record Works (J : Judgement → Type 0) (undecided : Bool) (d : Devices) : Type 0 where
+  pub task : Task
+  pub accepted : J (Accepted task)
+  pub written : Written
+  pub does : Does task written
+  pub decided : written.undecided ≡ undecided
+  pub out : Gains d.out.old.told d.out.new.told written.out
+  pub journal : Gains d.journal.old.told d.journal.new.told written.journal
 
--- Both are read to their ends.
-abbrev pub AreSpent : Devices → Type 0
-AreSpent d = IsSpent d.pla'.told × IsSpent d.side'.told
+-- The texts are accepted as a task, and the sinks gained what stands of it where it broke off.
+pub record Began (J : Judgement → Type 0) (d : Devices) : Type 0 where
+  pub task : Task
+  pub accepted : J (Accepted task)
+  pub out : List ℕ
+  pub journal : List ℕ
+  pub begins : Begins task out journal
+  pub out_gained : Gains d.out.old.told d.out.new.told out
+  pub journal_gained : Gains d.journal.old.told d.journal.new.told journal
 
--- The report verifies against the PLA, and the sink gained how many blocks it has, or a front of that.
-pub record Realised (d : Devices) (Takes : Option (List ℕ) → Option (List ℕ) → List ℕ → Type 0) : Type 0 where
-  pub parts : Parts
-  pub report : ReportParts
-  pub gives : PlaGives d.pla.told parts
-  pub spells : ReportGives d.side.told report
-  pub verified : IsVerified parts report
-  pub gained : Takes d.out.told d.out'.told (realised_text report)
+-- How a run ends: refused texts are told to be so, and nothing is written; a fault has its cause; work is that of accepted texts.
+abbrev pub Ends : (Judgement → Type 0) → Uses → Ending → Devices → Type 0
+Ends J u Done d = Works J false d
+Ends J u Undecided d = Works J true d
+Ends J u (Refused refusal) d = J (Refuses refusal) × IsBlank d
+Ends J u ReadFault d = HasReadFault u d × IsBlank d
+Ends J u WriteFault d = HasWriteFault u d × Began J d
+Ends J u NoMemory d = IsBlank d ⊎ Began J d
 
--- The report is refused so against the PLA.
-pub record NotRealised (d : Devices) (Refuses : Parts → ReportParts → Type 0) : Type 0 where
-  pub parts : Parts
-  pub report : ReportParts
-  pub gives : PlaGives d.pla.told parts
-  pub spells : ReportGives d.side.told report
-  pub refused : Refuses parts report
+abbrev pub IsInputRead : ℕ → InputRefusal → Change → Type 0
+IsInputRead most (Pla refusal) c = IsReadFor (refusal ≡ pla.TooLong) most c
+IsInputRead most (Cnf refusal) c = IsReadFor (refusal ≡ cnf.TooLong) most c
+IsInputRead most NoSuchOutput c = IsSpent c.new.told
 
--- How `verify` ends. The side is called only once the PLA is read, and nothing is written before the report is tested.
-abbrev pub EndsVerify : Ending → Devices → Type 0
-EndsVerify Done d = Realised d Gains × AreSpent d
-EndsVerify WriteFault d = Rose d.out.faults d.out'.faults × Realised d GainsFront × AreSpent d
-EndsVerify NoMemory d = (d.out' ≡ d.out) ⊎ Realised d GainsFront
-EndsVerify (Denied refusal) d = NotRealised d (λ parts report. IsDenied parts report refusal) × AreSpent d × (d.out' ≡ d.out)
-EndsVerify ending d =
-    (EndsPla ending d.pla d.pla' × (d.side' ≡ d.side) × (d.out' ≡ d.out))
-    ⊎ (((parts : Parts) × PlaGives d.pla.told parts) × IsSpent d.pla'.told × EndsReport ending d.side d.side' × (d.out' ≡ d.out))
+abbrev pub IsSideRead : SideRefusal → Change → Type 0
+IsSideRead refusal c = IsReadFor (refusal ≡ TooLong) most_side_bytes c
 
--- What the lines do after the formula.
-pub record Replayed (d : Devices) (Holds : Formula → List Line → Type 0) : Type 0 where
-  pub formula : Formula
-  pub lines : List Line
-  pub gives : CnfGives d.pla.told formula
-  pub says : LratGives d.side.told lines
-  pub holds : Holds formula lines
+-- Nothing is left of the sources that the command names.
+abbrev pub AreSpent : Uses → Devices → Type 0
+AreSpent u d = (u.pla ≡ true → IsSpent d.pla.new.told) × (u.side ≡ true → IsSpent d.side.new.told)
 
--- The lines refute the formula, and the sink gained that, or a front of it.
-abbrev pub Verifies : Devices → (Option (List ℕ) → Option (List ℕ) → List ℕ → Type 0) → Type 0
-Verifies d Takes = Replayed d (λ formula lines. IsAccepted formula lines × (adds_empty formula lines ≡ true)) × Takes d.out.told d.out'.told (codes "verified\n")
-
--- How `check` ends. The side is called only once the formula is read, and nothing is written before the lines are replayed.
-abbrev pub EndsCheck : Ending → Devices → Type 0
-EndsCheck Done d = Verifies d Gains × AreSpent d
-EndsCheck WriteFault d = Rose d.out.faults d.out'.faults × Verifies d GainsFront × AreSpent d
-EndsCheck NoMemory d = (d.out' ≡ d.out) ⊎ Verifies d GainsFront
-EndsCheck (Step fault line) d = Replayed d (λ formula lines. IsFirstFault (start formula) lines fault line) × AreSpent d × (d.out' ≡ d.out)
-EndsCheck (Unfinished line) d =
-    Replayed d (λ formula lines. IsAccepted formula lines × (adds_empty formula lines ≡ false)) × IfSome d.side.told (λ bytes. line ≡ end_line bytes)
-    × AreSpent d × (d.out' ≡ d.out)
-EndsCheck ending d =
-    (EndsCnf ending d.pla d.pla' × (d.side' ≡ d.side) × (d.out' ≡ d.out))
-    ⊎ (((formula : Formula) × CnfGives d.pla.told formula) × IsSpent d.pla'.told × EndsLrat ending d.side d.side' × (d.out' ≡ d.out))
-
--- No input is called and nothing is written.
-abbrev pub IsUntouched : Devices → Type 0
-IsUntouched d = (d.pla' ≡ d.pla) × (d.side' ≡ d.side) × (d.out' ≡ d.out)
-
--- How a run ends, by the job that the words ask for.
-abbrev pub EndsSo : Option Job → Ending → Devices → Type 0
-EndsSo None ending d = ((ending ≡ Words) ⊎ (ending ≡ NoMemory)) × IsUntouched d
-EndsSo (Some (Pairs output)) ending d = EndsLattices construction.Pairs output ending d
-EndsSo (Some (Dual output)) ending d = EndsLattices construction.Dual output ending d
-EndsSo (Some (Cnf output size)) ending d = EndsEncoding output size ending d
-EndsSo (Some Verify) ending d = EndsVerify ending d
-EndsSo (Some Check) ending d = EndsCheck ending d
+-- How far the sources were read.
+abbrev pub AreRead : Uses → ℕ → Ending → Devices → Type 0
+AreRead u most Done d = AreSpent u d
+AreRead u most Undecided d = AreSpent u d
+AreRead u most (Refused Words) d = Unit {0}
+AreRead u most (Refused (Input refusal)) d = IsInputRead most refusal d.pla
+AreRead u most (Refused (Side refusal)) d = IsSpent d.pla.new.told × IsSideRead refusal d.side
+AreRead u most (Refused (Unconfirmed refusal)) d = AreSpent u d
+AreRead u most ReadFault d = LosesUpTo d.pla.old.told d.pla.new.told most × LosesUpTo d.side.old.told d.side.new.told most_side_bytes
+AreRead u most WriteFault d = AreSpent u d
+AreRead u most NoMemory d = LosesUpTo d.pla.old.told d.pla.new.told most × LosesUpTo d.side.old.told d.side.new.told most_side_bytes
 
 -- The line of notes was taken, or a front of it where the faults of notes rose.
-pub record IsNoted (notes notes' : Device) (line : List ℕ) : Type 0 where
-  pub front : GainsFront notes.told notes'.told line
-  pub whole : Gains notes.told notes'.told line ⊎ Rose notes.faults notes'.faults
+pub record IsNoted (notes : Change) (line : List ℕ) : Type 0 where
+  pub front : GainsFront notes.old.told notes.new.told line
+  pub whole : Gains notes.old.told notes.new.told line ⊎ Failed notes
 
 -- No count of faults fell.
 pub record AreLater (d : Devices) : Type 0 where
-  pub pla : d.pla.faults ≤ d.pla'.faults
-  pub side : d.side.faults ≤ d.side'.faults
-  pub out : d.out.faults ≤ d.out'.faults
+  pub pla : d.pla.old.faults ≤ d.pla.new.faults
+  pub side : d.side.old.faults ≤ d.side.new.faults
+  pub out : d.out.old.faults ≤ d.out.new.faults
+  pub journal : d.journal.old.faults ≤ d.journal.new.faults
 
--- What is known of a run: how it ended, with its cause, and the line of notes of that ending.
-pub record Answers (job : Option Job) (result : Status) (d : Devices) (notes notes' : Device) : Type 0 where
+-- What is known of a run before its line of notes: how it ended, with its cause, and how far the sources were read.
+pub record Finishes (J : Judgement → Type 0) (u : Uses) (most : ℕ) (ending : Ending) (d : Devices) : Type 0 where
+  pub ends : Ends J u ending d
+  pub read : AreRead u most ending d
+  pub later : AreLater d
+
+-- The same of a command that does not call the journal, whatever that is.
+abbrev pub FinishesQuiet : (Texts → Judgement → Type 0) → Uses → ℕ → Ending → Change → Change → Change → Type 0
+FinishesQuiet J u most ending pla side out =
+    (journal : Device) → Finishes (J (record { pla = pla.old.told; side = side.old.told })) u most ending (quiet pla side out journal)
+
+-- The same of words that may ask for a job.
+abbrev pub FinishesAsked : Option Job → Ending → Devices → Type 0
+FinishesAsked asked ending d = Finishes (Comes IfSome asked (texts d)) (uses asked) (most_bytes asked) ending d
+
+-- What is known of a run: how it ended, its status, and the line of notes of that ending.
+pub record Answers (asked : Option Job) (result : Status) (d : Devices) (notes : Change) : Type 0 where
   pub ending : Ending
   pub status_is : result ≡ status_of ending
-  pub ends : EndsSo job ending d
-  pub noted : IsNoted notes notes' (note_text ending)
-  pub later : AreLater d
-  pub notes_later : notes.faults ≤ notes'.faults
+  pub finishes : FinishesAsked asked ending d
+  pub noted : IsNoted notes (note_text ending)
+  pub notes_later : notes.old.faults ≤ notes.new.faults
 
--- The inputs of a job are told.
-abbrev pub AreTold : Job → Devices → Type 0
-AreTold (Pairs output) d = (pla : List ℕ) × (d.pla.told ≡ Some pla)
-AreTold (Dual output) d = (pla : List ℕ) × (d.pla.told ≡ Some pla)
-AreTold (Cnf output size) d = (pla : List ℕ) × (d.pla.told ≡ Some pla)
-AreTold job d = (pla : List ℕ) × (side : List ℕ) × (d.pla.told ≡ Some pla) × (d.side.told ≡ Some side)
+-- Memory was wanting, or a source that the command names failed.
+abbrev pub IsCutOff : Option Job → Status → Devices → Type 0
+IsCutOff asked result d = (result ≡ status.NoMemory) ⊎ ((result ≡ status.ReadFault) × HasReadFault (uses asked) d)
 
--- An input that the job calls failed.
-abbrev pub InputFails : Job → Devices → Type 0
-InputFails (Pairs output) d = Rose d.pla.faults d.pla'.faults
-InputFails (Dual output) d = Rose d.pla.faults d.pla'.faults
-InputFails (Cnf output size) d = Rose d.pla.faults d.pla'.faults
-InputFails job d = Rose d.pla.faults d.pla'.faults ⊎ Rose d.side.faults d.side'.faults
+-- Told texts that are refused end the run as that refusal, with its line of notes and nothing written.
+abbrev pub SettlesRefusal : Option Job → Status → Devices → Change → Type 0
+SettlesRefusal asked result d notes = (refusal : Refusal) → Comes IsSomeAnd asked (texts d) (Refuses refusal)
+    → IsCutOff asked result d ⊎ ((result ≡ status_of (Refused refusal)) × IsBlank d × IsNoted notes (note_text (Refused refusal)))
 
--- Memory was wanting; an input failed; the output failed, where there was something to write; or the run ended as it was to,
--- with its status, its text and its line of notes.
-abbrev pub IsSettled : Type 0 → Outcome → Status → Devices → Device → Device → Type 0
-IsSettled Fails outcome result d notes notes' =
-    (result ≡ status.NoMemory)
-    ⊎ (((result ≡ status.ReadFault) × Fails)
-    ⊎ (((result ≡ status.WriteFault) × (outcome.ending ≡ Done) × Rose d.out.faults d.out'.faults)
-    ⊎ ((result ≡ status_of outcome.ending) × Gains d.out.told d.out'.told outcome.text × IsNoted notes notes' (note_text outcome.ending))))
+-- The task was done, all of it, and its answers are all decided or not.
+pub record IsDone (task : Task) (result : Status) (d : Devices) : Type 0 where
+  pub written : Written
+  pub does : Does task written
+  pub out : Gains d.out.old.told d.out.new.told written.out
+  pub journal : Gains d.journal.old.told d.journal.new.told written.journal
+  pub status_is : ((written.undecided ≡ false) × (result ≡ status.Done)) ⊎ ((written.undecided ≡ true) × (result ≡ status.Undecided))
 
--- Whatever the told texts of the job come to, that is how the run ends, but for faults and want of memory.
-abbrev pub Settles : Option Job → Status → Devices → Device → Device → Type 0
-Settles asked result d notes notes' =
-    (job : Job) → asked ≡ Some job → AreTold job d → (outcome : Outcome) → ComesTo job d.pla.told d.side.told outcome → IsSettled (InputFails job d) outcome result d notes notes'
+-- Told texts that are accepted end the run with their task done, or a sink that the command names failed.
+abbrev pub SettlesTask : Option Job → Status → Devices → Type 0
+SettlesTask asked result d = (task : Task) → Comes IsSomeAnd asked (texts d) (Accepted task)
+    → IsCutOff asked result d ⊎ (((result ≡ status.WriteFault) × HasWriteFault (uses asked) d) ⊎ IsDone task result d)
 
 -- Refused words come exactly where the words are no command's, but for want of memory.
 pub record AreJudged (asked : Option Job) (result : Status) : Type 0 where

@@ -10,8 +10,6 @@ use Rattle.report_text.specs.declared.answer.Answer.{Answer}
 use Rattle.report_text.specs.declared.answer.Answer.TheVariants.{Found, Minimum, Undecided}
 use Rattle.report_text.specs.Reading.{lines_in}
 use Rattle.report_text.specs.Report.{BlockParts, ReportParts}
-use Rattle.four_lattice.specs.declared.status.Ending.{Ending}
-use Rattle.four_lattice.specs.declared.status.Ending.TheVariants as ending
 use Rattle.four_lattice.specs.declared.verify.VerifyRefusal.{VerifyRefusal}
 use Rattle.four_lattice.specs.declared.verify.VerifyRefusal.TheVariants.{Inputs, Output, Literal, Wrong, NoMemory}
 
@@ -80,9 +78,3 @@ abbrev pub IsDenied : Parts → ReportParts → VerifyRefusal → Type 0
 IsDenied parts report refusal =
     ((report.input_names ≢ parts.input_names) × (refusal ≡ Inputs 2))
     ⊎ ((report.input_names ≡ parts.input_names) × HasRefusedBlock parts report.blocks refusal)
-
--- Why a report does not verify, as an ending.
-abbrev pub EndsReportTest : Ending → Parts → ReportParts → Type 0
-EndsReportTest (ending.Denied refusal) parts report = IsDenied parts report refusal
-EndsReportTest ending.NoMemory parts report = Unit {0}
-EndsReportTest _ parts report = ⊥

@@ -6,12 +6,14 @@ ghost use Rattle.pla_reader.specs.Parts.{parts_of, IsPla};
 ghost use Rattle.pla_reader.specs.Reading.{Reads};
 ghost use Rattle.report_text.specs.Reading.{Gives};
 ghost use Rattle.report_text.specs.Report.{parts_of_report};
-ghost use Rattle.wire_io.specs.Told.{IsSpent};
+ghost use Rattle.wire_io.specs.Told.{IsSpent, LosesUpTo};
 ghost use Rattle.four_lattice.specs.Check.{end_line};
+ghost use Rattle.four_lattice.specs.Devices.{change, unread};
 ghost use Rattle.four_lattice.specs.Inputs.{EndsPla, EndsCnf, EndsLrat, EndsReport};
+ghost use Rattle.four_lattice.specs.Uses.{most_pla_bytes, most_cnf_bytes, most_side_bytes};
 
 use crate::check::last_line;
-use crate::status::Ending;
+use crate::ending::{Ending, InputRefusal, Refusal, SideRefusal};
 use clause_core::formula::Formula;
 use clause_core::read::read_cnf;
 use clause_core::refusal::CnfRefusal;
@@ -31,42 +33,76 @@ const MOST_CNF_BYTES: usize = 67_108_864;
 /// The most bytes of a side file.
 const MOST_SIDE_BYTES: usize = 536_870_912;
 
+/// How a run ends that could not read a source, where too many bytes are refused so.
+fn ending_of_read(fault: ReadFault, long: Refusal) -> Ending
+    ensures { result ≡ unread long fault }
+{
+    match fault {
+        ReadFault::Fault => Ending::ReadFault,
+        ReadFault::TooLong => Ending::Refused(long),
+        ReadFault::NoMemory => Ending::NoMemory,
+    }
+}
+
 /// How a run ends that refuses a PLA.
 fn ending_of_pla(refusal: PlaRefusal) -> Ending
-    ensures refused { refusal ≢ PlaRefusal.NoMemory → result ≡ Ending.Pla refusal }
+    ensures refused { refusal ≢ PlaRefusal.NoMemory → result ≡ Ending.Refused (Refusal.Input (InputRefusal.Pla refusal)) }
     ensures wanting { refusal ≡ PlaRefusal.NoMemory → result ≡ Ending.NoMemory }
 {
     match refusal {
         PlaRefusal::NoMemory => Ending::NoMemory,
-        _ => Ending::Pla(refusal),
+        _ => Ending::Refused(Refusal::Input(InputRefusal::Pla(refusal))),
     }
 }
 
 /// How a run ends that refuses a CNF.
 fn ending_of_cnf(refusal: CnfRefusal) -> Ending
-    ensures refused { refusal ≢ CnfRefusal.NoMemory → result ≡ Ending.Cnf refusal }
+    ensures refused { refusal ≢ CnfRefusal.NoMemory → result ≡ Ending.Refused (Refusal.Input (InputRefusal.Cnf refusal)) }
     ensures wanting { refusal ≡ CnfRefusal.NoMemory → result ≡ Ending.NoMemory }
 {
     match refusal {
         CnfRefusal::NoMemory => Ending::NoMemory,
-        _ => Ending::Cnf(refusal),
+        _ => Ending::Refused(Refusal::Input(InputRefusal::Cnf(refusal))),
+    }
+}
+
+/// How a run ends that refuses the lines of a proof.
+fn ending_of_lrat(refusal: LratRefusal) -> Ending
+    ensures refused { refusal ≢ LratRefusal.NoMemory → result ≡ Ending.Refused (Refusal.Side (SideRefusal.Lrat refusal)) }
+    ensures wanting { refusal ≡ LratRefusal.NoMemory → result ≡ Ending.NoMemory }
+{
+    match refusal {
+        LratRefusal::NoMemory => Ending::NoMemory,
+        _ => Ending::Refused(Refusal::Side(SideRefusal::Lrat(refusal))),
+    }
+}
+
+/// How a run ends that refuses a report.
+fn ending_of_report(refusal: ReportRefusal) -> Ending
+    ensures refused { refusal ≢ ReportRefusal.NoMemory → result ≡ Ending.Refused (Refusal.Side (SideRefusal.Report refusal)) }
+    ensures wanting { refusal ≡ ReportRefusal.NoMemory → result ≡ Ending.NoMemory }
+{
+    match refusal {
+        ReportRefusal::NoMemory => Ending::NoMemory,
+        _ => Ending::Refused(Refusal::Side(SideRefusal::Report(refusal))),
     }
 }
 
 /// The PLA that a source has, or how the run ends.
-pub fn input_pla<S: Source>(alloc: Global, pla: &mut S) -> Result<Pla, Ending>
+pub(crate) fn input_pla<S: Source>(alloc: Global, pla: &mut S) -> Result<Pla, Ending>
     ensures reads { IfOk result (λ text. IfSome (S.left pla.old) (λ bytes. Reads bytes (parts_of text))) }
     ensures whole { IfOk result (λ text. IsPla (parts_of text)) }
     ensures spent { OnOk result (IsSpent (S.left pla.new)) }
-    ensures ends { IfErr result (λ ending. EndsPla ending
-        (record { told = S.left pla.old; faults = S.faults pla.old }) (record { told = S.left pla.new; faults = S.faults pla.new })) }
+    ensures taken { OnOk result (LosesUpTo (S.left pla.old) (S.left pla.new) most_pla_bytes) }
+    ensures ends { IfErr result (λ ending. EndsPla ending (change (S.left pla.old) (S.faults pla.old) (S.left pla.new) (S.faults pla.new))) }
     ensures later { S.faults pla.old ≤ S.faults pla.new }
 {
     let bytes = match read_all(alloc, pla, MOST_BYTES) {
         Ok(bytes) => bytes,
-        Err(ReadFault::Fault) => return Err(Ending::ReadFault),
-        Err(ReadFault::TooLong) => return Err(Ending::Pla(PlaRefusal::TooLong)),
-        Err(ReadFault::NoMemory) => return Err(Ending::NoMemory),
+        Err(fault) => {
+            let long = Refusal::Input(InputRefusal::Pla(PlaRefusal::TooLong));
+            return Err(ending_of_read(fault, long));
+        }
     };
     match read_pla(alloc, &bytes) {
         Ok(text) => Ok(text),
@@ -75,18 +111,19 @@ pub fn input_pla<S: Source>(alloc: Global, pla: &mut S) -> Result<Pla, Ending>
 }
 
 /// The formula that a source has, or how the run ends.
-pub fn input_cnf<S: Source>(alloc: Global, pla: &mut S) -> Result<Formula, Ending>
+pub(crate) fn input_cnf<S: Source>(alloc: Global, pla: &mut S) -> Result<Formula, Ending>
     ensures reads { IfOk result (λ formula. IfSome (S.left pla.old) (λ bytes. cnf_of bytes ≡ Ok formula)) }
     ensures spent { OnOk result (IsSpent (S.left pla.new)) }
-    ensures ends { IfErr result (λ ending. EndsCnf ending
-        (record { told = S.left pla.old; faults = S.faults pla.old }) (record { told = S.left pla.new; faults = S.faults pla.new })) }
+    ensures taken { OnOk result (LosesUpTo (S.left pla.old) (S.left pla.new) most_cnf_bytes) }
+    ensures ends { IfErr result (λ ending. EndsCnf ending (change (S.left pla.old) (S.faults pla.old) (S.left pla.new) (S.faults pla.new))) }
     ensures later { S.faults pla.old ≤ S.faults pla.new }
 {
     let bytes = match read_all(alloc, pla, MOST_CNF_BYTES) {
         Ok(bytes) => bytes,
-        Err(ReadFault::Fault) => return Err(Ending::ReadFault),
-        Err(ReadFault::TooLong) => return Err(Ending::Cnf(CnfRefusal::TooLong)),
-        Err(ReadFault::NoMemory) => return Err(Ending::NoMemory),
+        Err(fault) => {
+            let long = Refusal::Input(InputRefusal::Cnf(CnfRefusal::TooLong));
+            return Err(ending_of_read(fault, long));
+        }
     };
     match read_cnf(alloc, &bytes) {
         Ok(formula) => Ok(formula),
@@ -96,62 +133,47 @@ pub fn input_cnf<S: Source>(alloc: Global, pla: &mut S) -> Result<Formula, Endin
 
 /// The lines of a side file, and the number of the line on which it ends.
 #[derive(Drop)]
-pub struct Proof {
-    pub lines: Vec<Line>,
-    pub last: u32,
+pub(crate) struct Proof {
+    pub(crate) lines: Vec<Line>,
+    pub(crate) last: u32,
 }
 
 /// The lines that a side file has, or how the run ends.
-pub fn input_proof<S: Source>(alloc: Global, side: &mut S) -> Result<Proof, Ending>
-    ensures reads { IfOk result (λ proof. IfSome (S.left side.old) (λ bytes. (length bytes ≤ 536870912) × (lrat_of bytes ≡ Ok proof.lines.items) × (proof.last ≡ end_line bytes))) }
+pub(crate) fn input_proof<S: Source>(alloc: Global, side: &mut S) -> Result<Proof, Ending>
+    ensures reads { IfOk result (λ proof. IfSome (S.left side.old) (λ bytes. (length bytes ≤ most_side_bytes) × (lrat_of bytes ≡ Ok proof.lines.items))) }
+    ensures last { IfOk result (λ proof. IfSome (S.left side.old) (λ bytes. proof.last ≡ end_line bytes)) }
     ensures spent { OnOk result (IsSpent (S.left side.new)) }
-    ensures ends { IfErr result (λ ending. EndsLrat ending
-        (record { told = S.left side.old; faults = S.faults side.old }) (record { told = S.left side.new; faults = S.faults side.new })) }
+    ensures taken { OnOk result (LosesUpTo (S.left side.old) (S.left side.new) most_side_bytes) }
+    ensures ends { IfErr result (λ ending. EndsLrat ending (change (S.left side.old) (S.faults side.old) (S.left side.new) (S.faults side.new))) }
     ensures later { S.faults side.old ≤ S.faults side.new }
 {
     let bytes = match read_all(alloc, side, MOST_SIDE_BYTES) {
         Ok(bytes) => bytes,
-        Err(ReadFault::Fault) => return Err(Ending::ReadFault),
-        Err(ReadFault::TooLong) => return Err(Ending::SideTooLong),
-        Err(ReadFault::NoMemory) => return Err(Ending::NoMemory),
+        Err(fault) => return Err(ending_of_read(fault, Refusal::Side(SideRefusal::TooLong))),
     };
     match read_lrat(alloc, &bytes) {
         Ok(lines) => Ok(Proof {
             lines,
             last: last_line(&bytes),
         }),
-        Err(LratRefusal::NoMemory) => Err(Ending::NoMemory),
-        Err(LratRefusal::Word { line }) => Err(Ending::Lrat(LratRefusal::Word { line })),
-        Err(LratRefusal::Form { line }) => Err(Ending::Lrat(LratRefusal::Form { line })),
+        Err(refusal) => Err(ending_of_lrat(refusal)),
     }
 }
 
 /// The report that a side file has, or how the run ends.
-pub fn input_report<S: Source>(alloc: Global, side: &mut S) -> Result<Report, Ending>
-    ensures reads { IfOk result (λ report. IfSome (S.left side.old) (λ bytes. (length bytes ≤ 536870912) × Gives bytes (Ok (parts_of_report report)))) }
+pub(crate) fn input_report<S: Source>(alloc: Global, side: &mut S) -> Result<Report, Ending>
+    ensures reads { IfOk result (λ report. IfSome (S.left side.old) (λ bytes. (length bytes ≤ most_side_bytes) × Gives bytes (Ok (parts_of_report report)))) }
     ensures spent { OnOk result (IsSpent (S.left side.new)) }
-    ensures ends { IfErr result (λ ending. EndsReport ending
-        (record { told = S.left side.old; faults = S.faults side.old }) (record { told = S.left side.new; faults = S.faults side.new })) }
+    ensures taken { OnOk result (LosesUpTo (S.left side.old) (S.left side.new) most_side_bytes) }
+    ensures ends { IfErr result (λ ending. EndsReport ending (change (S.left side.old) (S.faults side.old) (S.left side.new) (S.faults side.new))) }
     ensures later { S.faults side.old ≤ S.faults side.new }
 {
     let bytes = match read_all(alloc, side, MOST_SIDE_BYTES) {
         Ok(bytes) => bytes,
-        Err(ReadFault::Fault) => return Err(Ending::ReadFault),
-        Err(ReadFault::TooLong) => return Err(Ending::SideTooLong),
-        Err(ReadFault::NoMemory) => return Err(Ending::NoMemory),
+        Err(fault) => return Err(ending_of_read(fault, Refusal::Side(SideRefusal::TooLong))),
     };
     match read_report(alloc, &bytes) {
         Ok(report) => Ok(report),
-        Err(ReportRefusal::NoMemory) => Err(Ending::NoMemory),
-        Err(ReportRefusal::Header { line }) => Err(Ending::Report(ReportRefusal::Header { line })),
-        Err(ReportRefusal::Inputs { line }) => Err(Ending::Report(ReportRefusal::Inputs { line })),
-        Err(ReportRefusal::Block { line }) => Err(Ending::Report(ReportRefusal::Block { line })),
-        Err(ReportRefusal::Grid { line }) => Err(Ending::Report(ReportRefusal::Grid { line })),
-        Err(ReportRefusal::Trailing { line }) => Err(Ending::Report(ReportRefusal::Trailing {
-            line,
-        })),
-        Err(ReportRefusal::Truncated { line }) => Err(Ending::Report(ReportRefusal::Truncated {
-            line,
-        })),
+        Err(refusal) => Err(ending_of_report(refusal)),
     }
 }

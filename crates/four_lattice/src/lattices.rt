@@ -1,12 +1,18 @@
 //! The commands `pairs` and `dual`.
-ghost use Rattle.std.specs.Prelude.{◌≡◌, ℕ, ◌+◌, ◌<◌, ◌≤◌, List, length, map, IfOk, OnOk, IfErr, IsTrue, ◌↔◌, MatchOption};
+ghost use Rattle.std.specs.Prelude.{◌≡◌, ℕ, ◌+◌, ◌<◌, ◌≤◌, List, length, map, IfOk, OnOk, IfErr, IsTrue, ◌↔◌, ◌⊎◌, MatchOption, IfSome};
 ghost use Rattle.wire_io.specs.Told.{Gains, GainsFront};
 ghost use Rattle.pla_reader.specs.Names.{bytes_of};
 ghost use Rattle.pla_reader.specs.Parts.{parts_of, IsPla};
 ghost use Rattle.report_text.specs.Report.{blocks_text, report_text};
-ghost use Rattle.four_lattice.specs.Lattices.{made_by, blocks_by, report_by, IsThere, IsWriteCause};
+ghost use Rattle.four_lattice.specs.Lattices.{made_by, blocks_by, report_by, ending_of_fault, IsThere, IsWriteCause};
+ghost use Rattle.four_lattice.specs.Devices.{change};
+ghost use Rattle.four_lattice.specs.Judge.{LatticesCome, IsGranted};
+ghost use Rattle.four_lattice.specs.Run.{FinishesQuiet};
+ghost use Rattle.four_lattice.specs.Uses.{pla_alone, most_pla_bytes};
 ghost use Rattle.four_lattice.specs.declared.lattices.WorkFault.TheVariants.{Write, NoMemory};
 
+use crate::ending::{Ending, InputRefusal, Refusal};
+use crate::inputs::input_pla;
 use cube_core::spec::Spec;
 use dual_product::dual::dual_product;
 use lattice_grid::grid::Grid;
@@ -18,10 +24,11 @@ use report_text::write::{write_block, write_end, write_head};
 use std::alloc::Global;
 use wire_io::fault::{Failed, NoMemory as OutOfMemory};
 use wire_io::sink::Sink;
+use wire_io::source::Source;
 
 /// How the lattice of an output is made.
 #[derive(Clone, Copy, Debug, PartialEq, Eq)]
-pub enum Construction {
+pub(crate) enum Construction {
     /// A column for each on assignment, a row for each off assignment.
     Pairs,
     /// A column for each cube of a cover, a row for each cube of a cover of what that one leaves.
@@ -42,9 +49,21 @@ impl Construction {
 
 /// Why a command's work stopped.
 #[derive(Clone, Copy, Debug, PartialEq, Eq)]
-pub enum WorkFault {
+pub(crate) enum WorkFault {
     Write,
     NoMemory,
+}
+
+impl WorkFault {
+    /// How a run ends whose work stopped so.
+    pub(crate) fn ending(self) -> Ending
+        ensures { result ≡ ending_of_fault self }
+    {
+        match self {
+            WorkFault::Write => Ending::WriteFault,
+            WorkFault::NoMemory => Ending::NoMemory,
+        }
+    }
 }
 
 impl From<Failed> for WorkFault {
@@ -64,7 +83,7 @@ impl From<OutOfMemory> for WorkFault {
 }
 
 /// Whether a PLA has the chosen output.
-pub fn has_output(pla: &Pla, output: Option<u32>) -> bool
+pub(crate) fn has_output(pla: &Pla, output: Option<u32>) -> bool
     ensures { IsTrue result ↔ IsThere output pla.now.outputs }
 {
     match output {
@@ -127,7 +146,7 @@ fn write_chosen<K: Sink>(
 }
 
 /// Writes the report of the lattices of the chosen outputs.
-pub fn write_lattices<K: Sink>(
+pub(crate) fn write_lattices<K: Sink>(
     alloc: Global,
     sink: &mut K,
     how: Construction,
@@ -145,4 +164,34 @@ pub fn write_lattices<K: Sink>(
     write_chosen(alloc, sink, how, output, pla)?;
     write_end(sink)?;
     Ok(())
+}
+
+/// How a report of the lattices of the chosen outputs ends.
+pub(crate) fn end_of_lattices<S: Source, K: Sink>(
+    alloc: Global,
+    how: Construction,
+    output: Option<u32>,
+    pla: &mut S,
+    side: &mut S,
+    out: &mut K,
+) -> Ending
+    ensures finishes { FinishesQuiet (LatticesCome IfSome how output) pla_alone most_pla_bytes result
+        (change (S.left pla.old) (S.faults pla.old) (S.left pla.new) (S.faults pla.new))
+        (change (S.left side.old) (S.faults side.old) (S.left side.new) (S.faults side.new))
+        (change (K.got out.old) (K.faults out.old) (K.got out.new) (K.faults out.new)) }
+    ensures side_same { side.new ≡ side.old }
+    ensures out_last { (out.new ≡ out.old) ⊎ IsGranted (LatticesCome IfSome how output (record { pla = S.left pla.old; side = S.left side.old })) }
+{
+    let _ = &side;
+    let text = match input_pla(alloc, pla) {
+        Ok(text) => text,
+        Err(ending) => return ending,
+    };
+    if !has_output(&text, output) {
+        return Ending::Refused(Refusal::Input(InputRefusal::NoSuchOutput));
+    }
+    match write_lattices(alloc, out, how, output, &text) {
+        Ok(()) => Ending::Done,
+        Err(fault) => fault.ending(),
+    }
 }

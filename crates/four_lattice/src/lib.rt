@@ -2,8 +2,11 @@
 #![tactic(auto)]
 
 mod check;
+mod encoding;
+pub mod ending;
 mod inputs;
 mod lattices;
+mod notes;
 pub mod run;
 pub mod status;
 pub mod verify;

@@ -1,15 +1,24 @@
 //! The command `verify`.
-ghost use Rattle.std.specs.Prelude.{◌≡◌, ◌≢◌, ℕ, ◌+◌, ◌*◌, ◌≤◌, ◌⊎◌, length, map, IfOk, OnOk, IfErr, MatchOption, MatchResult, IsTrue, ◌↔◌};
+ghost use Rattle.std.specs.Prelude.{◌≡◌, ◌≢◌, ℕ, ◌+◌, ◌*◌, ◌≤◌, ◌⊎◌, ◌++◌, codes, decimal, IfSome, length, map, IfOk, OnOk, IfErr, MatchOption, MatchResult, IsTrue, ◌↔◌};
 ghost use Rattle.cube_core.specs.Function.{Function};
 ghost use Rattle.pla_reader.specs.Names.{bytes_of};
-ghost use Rattle.pla_reader.specs.Parts.{parts_of, IsPla};
+ghost use Rattle.pla_reader.specs.Parts.{Parts, parts_of, IsPla};
 ghost use Rattle.report_text.specs.Reading.{lines_in};
 ghost use Rattle.report_text.specs.Report.{parts_of_block, parts_of_report};
 ghost use Rattle.four_lattice.specs.Verified.{lattice_in, IsOf, IsRight, AreRight, IsBlockRefused, HasRefusedBlock, IsVerified, IsDenied};
+ghost use Rattle.wire_io.specs.Causes.{HasCause};
+ghost use Rattle.wire_io.specs.Told.{Gains, GainsFront};
+ghost use Rattle.four_lattice.specs.Devices.{change, EndsTest};
+ghost use Rattle.four_lattice.specs.Judge.{Denies, PlaGives, VerifyComes, IsGranted};
+ghost use Rattle.four_lattice.specs.Run.{FinishesQuiet};
+ghost use Rattle.four_lattice.specs.Uses.{pla_and_side, most_pla_bytes};
 ghost use Rattle.four_lattice.specs.declared.verify.VerifyRefusal.{VerifyRefusal};
 
+use crate::ending::{Ending, Refusal, Unconfirmed};
+use crate::inputs::{input_pla, input_report};
 use cube_core::assign::Assign;
 use cube_core::spec::Spec;
+use itoa::Buffer;
 use lattice_grid::grid::Grid;
 use path_meaning::marks::Marks;
 use path_meaning::realise::realises;
@@ -17,7 +26,9 @@ use pla_reader::name::Name;
 use pla_reader::pla::Pla;
 use report_text::answer::{Answer, Block, Report};
 use std::alloc::Global;
-use wire_io::fault::NoMemory as OutOfMemory;
+use wire_io::fault::{Failed, NoMemory as OutOfMemory};
+use wire_io::sink::{Sink, write_pieces};
+use wire_io::source::Source;
 
 /// The number of the line on which the first block of a report begins.
 const FIRST_BLOCK_LINE: u32 = 3;
@@ -184,4 +195,70 @@ pub fn verify(alloc: Global, pla: &Pla, report: &Report) -> Result<u32, VerifyRe
         MatchResult result (λ _. ⊥) (λ other. (other ≡ refusal) ⊎ (other ≡ VerifyRefusal.NoMemory)) }
 {
     test_report(alloc, pla, report)
+}
+
+/// How a run ends whose report does not verify.
+fn ending_of_denial(refusal: VerifyRefusal) -> Ending
+    ensures refused { refusal ≢ VerifyRefusal.NoMemory → result ≡ Ending.Refused (Refusal.Unconfirmed (Unconfirmed.Denied refusal)) }
+    ensures wanting { refusal ≡ VerifyRefusal.NoMemory → result ≡ Ending.NoMemory }
+{
+    match refusal {
+        VerifyRefusal::NoMemory => Ending::NoMemory,
+        _ => Ending::Refused(Refusal::Unconfirmed(Unconfirmed::Denied(refusal))),
+    }
+}
+
+/// Tests a report against a PLA: the number of its blocks where it verifies, or else how the run ends.
+fn confirm(alloc: Global, text: &Pla, report: &Report) -> Result<u32, Ending>
+    requires { IsPla (parts_of text.now) }
+    ensures many { IfOk result (λ many. many ≡ length report.now.blocks.items) }
+    ensures verified { OnOk result (IsVerified (parts_of text.now) (parts_of_report report.now)) }
+    ensures ends { IfErr result (EndsTest (Denies (parts_of text.now) (parts_of_report report.now))) }
+{
+    match verify(alloc, text, report) {
+        Ok(many) => Ok(many),
+        Err(refusal) => Err(ending_of_denial(refusal)),
+    }
+}
+
+/// Writes how many lattices realise their outputs.
+fn write_realised<K: Sink>(out: &mut K, many: u32) -> Result<(), Failed>
+    ensures ok { OnOk result (Gains (K.got out.old) (K.got out.new) (codes "realised " ++ (decimal many ++ codes "\n"))) }
+    ensures front { GainsFront (K.got out.old) (K.got out.new) (codes "realised " ++ (decimal many ++ codes "\n")) }
+    ensures cause { HasCause (K.faults out.old) (K.faults out.new) result }
+{
+    let mut digits = Buffer::new();
+    write_pieces(out, &[b"realised ", digits.format(many).as_bytes(), b"\n"])
+}
+
+/// How the command `verify` ends.
+pub(crate) fn end_of_verify<S: Source, K: Sink>(
+    alloc: Global,
+    pla: &mut S,
+    side: &mut S,
+    out: &mut K,
+) -> Ending
+    ensures finishes { FinishesQuiet (VerifyComes IfSome) pla_and_side most_pla_bytes result
+        (change (S.left pla.old) (S.faults pla.old) (S.left pla.new) (S.faults pla.new))
+        (change (S.left side.old) (S.faults side.old) (S.left side.new) (S.faults side.new))
+        (change (K.got out.old) (K.faults out.old) (K.got out.new) (K.faults out.new)) }
+    ensures side_last { (side.new ≡ side.old) ⊎ ((parts : Parts) × PlaGives IfSome (record { pla = S.left pla.old; side = S.left side.old }) parts) }
+    ensures out_last { (out.new ≡ out.old) ⊎ IsGranted (VerifyComes IfSome (record { pla = S.left pla.old; side = S.left side.old })) }
+{
+    let text = match input_pla(alloc, pla) {
+        Ok(text) => text,
+        Err(ending) => return ending,
+    };
+    let report = match input_report(alloc, side) {
+        Ok(report) => report,
+        Err(ending) => return ending,
+    };
+    let many = match confirm(alloc, &text, &report) {
+        Ok(many) => many,
+        Err(ending) => return ending,
+    };
+    match write_realised(out, many) {
+        Ok(()) => Ending::Done,
+        Err(Failed) => Ending::WriteFault,
+    }
 }

@@ -33,20 +33,25 @@ fn main(rt: HostRuntime) -> ExitCode {
     let Ok(words) = words.skip(1).collect::<Vec<String>>(rt.alloc()) else {
         return ExitCode::from(Status::NoMemory.number());
     };
-    let Ok(path) = last_word(rt.alloc(), &words) else {
+    let (Ok(side_path), Ok(journal_path)) = (
+        last_word(rt.alloc(), &words),
+        last_word(rt.alloc(), &words),
+    ) else {
         return ExitCode::from(Status::NoMemory.number());
     };
     let mut pla = HostSource::standard(&rt);
-    let mut side = HostSource::file(&rt, path);
+    let mut side = HostSource::file(&rt, side_path);
     let mut out = HostSink::standard(&rt);
+    let journal = HostSink::file(&rt, journal_path);
     let mut notes = HostSink::errors(&rt);
-    let status = run(
+    let ended = run(
         rt.alloc(),
         &words,
         &mut pla,
         &mut side,
         &mut out,
+        journal,
         &mut notes,
     );
-    ExitCode::from(status.number())
+    ExitCode::from(ended.status.number())
 }

@@ -157,11 +157,13 @@ fn odd_parity_of_ten_inputs(rt: HostRuntime) -> Result<(), Fail> {
     let mut side = FirmSource::new(Vec::new(alloc), 4);
     let mut out = FirmSink::new(alloc, 100, 8192)?;
     let mut notes = FirmSink::new(alloc, 200, 1)?;
-    let status = run(alloc, &words, &mut pla, &mut side, &mut out, &mut notes);
-    assert_eq!(rt; status, Status::Done);
+    let journal = FirmSink::new(alloc, 1, 1)?;
+    let ended = run(alloc, &words, &mut pla, &mut side, &mut out, journal, &mut notes);
+    assert_eq!(rt; ended.status, Status::Done);
     assert_eq!(rt; notes.total(), 0);
     let front =
         b"lattice report 1\ninputs x0 x1 x2 x3 x4 x5 x6 x7 x8 x9\noutput 0 f0 found 512x512\nx0 x1 x2 x0 ";
     assert!(rt; out.bytes().starts_with(front));
+    assert_eq!(rt; ended.journal.total(), 0);
     Ok(())
 }

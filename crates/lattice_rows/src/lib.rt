@@ -10,6 +10,8 @@ mod dual;
 #[cfg(test)]
 mod encoding;
 #[cfg(test)]
+mod faults;
+#[cfg(test)]
 mod lattices;
 #[cfg(test)]
 mod pairs;

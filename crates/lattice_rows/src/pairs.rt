@@ -108,11 +108,13 @@ fn no_words(rt: HostRuntime) -> Result<(), Fail> {
     let mut side = FirmSource::new(Vec::new(alloc), 4);
     let mut out = FirmSink::new(alloc, 200, 7)?;
     let mut notes = FirmSink::new(alloc, 200, 1)?;
-    let status = run(alloc, &[], &mut pla, &mut side, &mut out, &mut notes);
-    assert_eq!(rt; status, Status::Words);
-    assert_eq!(rt; status.number(), 1);
+    let journal = FirmSink::new(alloc, 1, 1)?;
+    let ended = run(alloc, &[], &mut pla, &mut side, &mut out, journal, &mut notes);
+    assert_eq!(rt; ended.status, Status::Words);
+    assert_eq!(rt; ended.status.number(), 1);
     assert_eq!(rt; notes.bytes(), b"words refused\n".as_slice());
     assert_eq!(rt; out.total(), 0);
+    assert_eq!(rt; ended.journal.total(), 0);
     Ok(())
 }
 
@@ -124,10 +126,12 @@ fn a_source_that_fails(rt: HostRuntime) -> Result<(), Fail> {
     let mut side = MemorySource::new(Vec::new(alloc), 4, Vec::new(alloc));
     let mut out = MemorySink::new(alloc, 200, 7, Vec::new(alloc))?;
     let mut notes = MemorySink::new(alloc, 200, 1, Vec::new(alloc))?;
-    let status = run(alloc, &words, &mut pla, &mut side, &mut out, &mut notes);
-    assert_eq!(rt; status, Status::ReadFault);
+    let journal = MemorySink::new(alloc, 1, 1, Vec::new(alloc))?;
+    let ended = run(alloc, &words, &mut pla, &mut side, &mut out, journal, &mut notes);
+    assert_eq!(rt; ended.status, Status::ReadFault);
     assert_eq!(rt; notes.bytes(), b"read fault\n".as_slice());
     assert_eq!(rt; out.bytes().len(), 0);
+    assert_eq!(rt; ended.journal.bytes().len(), 0);
     Ok(())
 }
 
@@ -139,10 +143,12 @@ fn a_sink_that_fails(rt: HostRuntime) -> Result<(), Fail> {
     let mut side = MemorySource::new(Vec::new(alloc), 4, Vec::new(alloc));
     let mut out = MemorySink::new(alloc, 200, 1, vec![in alloc; 2]?)?;
     let mut notes = MemorySink::new(alloc, 200, 1, Vec::new(alloc))?;
-    let status = run(alloc, &words, &mut pla, &mut side, &mut out, &mut notes);
-    assert_eq!(rt; status, Status::WriteFault);
+    let journal = MemorySink::new(alloc, 1, 1, Vec::new(alloc))?;
+    let ended = run(alloc, &words, &mut pla, &mut side, &mut out, journal, &mut notes);
+    assert_eq!(rt; ended.status, Status::WriteFault);
     assert_eq!(rt; out.bytes(), b"l".as_slice());
     assert_eq!(rt; notes.bytes(), b"write fault\n".as_slice());
+    assert_eq!(rt; ended.journal.bytes().len(), 0);
     Ok(())
 }
 
@@ -153,8 +159,10 @@ fn notes_that_fail(rt: HostRuntime) -> Result<(), Fail> {
     let mut side = MemorySource::new(Vec::new(alloc), 4, Vec::new(alloc));
     let mut out = MemorySink::new(alloc, 200, 1, Vec::new(alloc))?;
     let mut notes = MemorySink::new(alloc, 200, 1, vec![in alloc; 3]?)?;
-    let status = run(alloc, &[], &mut pla, &mut side, &mut out, &mut notes);
-    assert_eq!(rt; status, Status::Words);
+    let journal = MemorySink::new(alloc, 1, 1, Vec::new(alloc))?;
+    let ended = run(alloc, &[], &mut pla, &mut side, &mut out, journal, &mut notes);
+    assert_eq!(rt; ended.status, Status::Words);
     assert_eq!(rt; notes.bytes(), b"wo".as_slice());
+    assert_eq!(rt; ended.journal.bytes().len(), 0);
     Ok(())
 }

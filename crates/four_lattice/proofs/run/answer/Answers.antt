@@ -1,5 +1,11 @@
-use Rattle.four_lattice.proofs.JudgedLaws.{judged}
+use Rattle.std.proofs.Common.{rules}
 use Rattle.four_lattice.proofs.run.answer.Goals as goal
 
-pub returns-clause-words : goal.returns-clause-words
-returns-clause-words g c = judged _ _ _ _ c.end_of_words-ending.ensures.ends c.status.ensures
+pub returns-clause-answers : goal.returns-clause-answers
+returns-clause-answers g c = record {
+  ending = c.end_of_words-ending.result;
+  status_is = c.status.ensures;
+  finishes = c.end_of_words-ending.ensures.finishes (record { told = g.K.Sink.got c.args.journal; faults = g.K.Sink.faults c.args.journal });
+  noted = record { front = c.write_note.ensures.front; whole = search rules };
+  notes_later = c.write_note.ensures.cause.later;
+}
