@@ -1,8 +1,10 @@
 pub mod Differences
 pub mod Lists
+pub mod RailsLaws
 pub mod PairsLaws
 pub mod RisingLaws
 pub mod PathLaws
+pub mod ToldLaws
 pub mod RealiseLaws
 pub mod NeighbourLaws
 pub mod RepeatLaws

@@ -9,7 +9,7 @@ use Rattle.std.proofs.Math.Pow.{pow_mono}
 use Rattle.cube_core.specs.Members.{Assignments}
 use Rattle.cube_core.specs.Rising.{rising}
 use Rattle.cube_core.specs.Function.{Function, IsFunction}
-use Rattle.lattice_grid.specs.Pairs.{AreApart}
+use Rattle.lattice_grid.specs.Told.{AreTold}
 
 -- a member below n
 abbrev pub IsBelowIn : ℕ → Assignments → ℕ → Type 0
@@ -67,13 +67,6 @@ HasPlace-rising (suc n) s x below here = elim (eqb_tells x n) [
       ]
 ]
 
--- no on assignment is an off assignment
-pub rising_apart : (f : Function) → IsFunction f → All (λ off. All (λ on. on ≢ off) (rising (2 ^ f.inputs) f.on)) (rising (2 ^ f.inputs) f.off)
-rising_apart f h = All-weaker (IsBelowIn (2 ^ f.inputs) f.off) _
-    (λ off in_off. All-weaker (IsBelowIn (2 ^ f.inputs) f.on) (λ on. on ≢ off)
-    (λ on in_on same. h.disjoint on in_on.1 (subst (λ x. set.contains f.off x ≡ true) (sym same) in_off.1)) _ (All-rising (2 ^ f.inputs) f.on))
-    _ (All-rising (2 ^ f.inputs) f.off)
-
 few_assignments : (n : ℕ) → n ≤ 10 → 2 ^ n ≤ 1024
 few_assignments n few = pow_mono few
 
@@ -83,15 +76,22 @@ length-rising_few f s h = let few = few_assignments f.inputs h.few in omega (ari
 pub rising_below : (f : Function) (s : Assignments) → IsFunction f → All (λ x. x < 1024) (rising (2 ^ f.inputs) s)
 rising_below f s h = let few = few_assignments f.inputs h.few in All-weaker (IsBelowIn (2 ^ f.inputs) s) (λ x. x < 1024) (λ x k. omega (arith, k.0, few)) _ (All-rising (2 ^ f.inputs) s)
 
-pub rising_AreApart : (f : Function) → IsFunction f → AreApart (rising (2 ^ f.inputs) f.on) (rising (2 ^ f.inputs) f.off)
-rising_AreApart f h = record {
-  apart = rising_apart f h;
-  ons_below = rising_below f f.on h;
-  offs_below = rising_below f f.off h;
+-- the members, rising, by their places
+pub rising_at : (n : ℕ) (s : Assignments) (k d : ℕ) → k < length (rising n s) → (get_or (rising n s) k d < n) × (set.contains s (get_or (rising n s) k d) ≡ true)
+rising_at n s k d within = All-rising n s k d within
+
+-- what is true of each on and each off assignment is true of the two lists
+pub rising_AreTold : (f : Function) (CanTell : ℕ → ℕ → Type 0) → IsFunction f → ((x y : ℕ) → IsBelowIn (2 ^ f.inputs) f.on x → IsBelowIn (2 ^ f.inputs) f.off y → CanTell x y) → AreTold CanTell (rising (2 ^ f.inputs) f.on) (rising (2 ^ f.inputs) f.off)
+rising_AreTold f CanTell h each = record {
+  told = λ j d within k e inside. each _ _ (All-rising (2 ^ f.inputs) f.on k e inside) (All-rising (2 ^ f.inputs) f.off j d within);
   few_ons = length-rising_few f f.on h;
   few_offs = length-rising_few f f.off h;
 }
 
--- the same, of lists that are these
-pub AreApart-read : (f : Function) → IsFunction f → (ons offs : List ℕ) → ons ≡ rising (2 ^ f.inputs) f.on → offs ≡ rising (2 ^ f.inputs) f.off → AreApart ons offs
-AreApart-read f h ons offs p q = rw (p, q) (rising_AreApart f h)
+-- no assignment is both
+pub not_both : (f : Function) → IsFunction f → (x y : ℕ) → set.contains f.on x ≡ true → set.contains f.off y ≡ true → x ≢ y
+not_both f h x y on off same = h.disjoint x on (subst (λ z. set.contains f.off z ≡ true) (sym same) off)
+
+-- the on and off assignments are apart, as lists that are these
+pub AreApart-read : (f : Function) → IsFunction f → (ons offs : List ℕ) → ons ≡ rising (2 ^ f.inputs) f.on → offs ≡ rising (2 ^ f.inputs) f.off → AreTold (λ on off. on ≢ off) ons offs
+AreApart-read f h ons offs p q = rw (p, q) (rising_AreTold f (λ on off. on ≢ off) h (λ x y on off. not_both f h x y on.1 off.1))

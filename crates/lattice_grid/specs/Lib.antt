@@ -4,6 +4,8 @@ pub mod Lattice
 pub mod Neighbours
 pub mod Pairs
 pub mod Path
+pub mod Rails
 pub mod Realise
 pub mod Rectangle
 pub mod Repeated
+pub mod Told

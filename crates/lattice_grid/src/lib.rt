@@ -6,5 +6,8 @@ pub mod control;
 pub mod grid;
 pub mod neighbours;
 pub mod pairs;
+pub mod rails;
 mod repeat;
+pub mod rising;
 pub mod shape;
+mod told;

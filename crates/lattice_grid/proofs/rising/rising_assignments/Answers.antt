@@ -1,7 +1,7 @@
 use Rattle.std.proofs.Common.{arith}
 use Rattle.lattice_grid.proofs.Lists.{rising-more, shl_few}
-use Rattle.lattice_grid.proofs.pairs.assignments.Goals as goal
-use Rattle.lattice_grid.proofs.pairs.assignments.Goals.{in-Some+then-has+in_ok-push, in-Some+else-has, in_default}
+use Rattle.lattice_grid.proofs.rising.rising_assignments.Goals as goal
+use Rattle.lattice_grid.proofs.rising.rising_assignments.Goals.{in-Some+then-has+in_ok-push, in-Some+else-has, in_default}
 
 pub loop-number-preserved : goal.loop-number-preserved
 loop-number-preserved c =

@@ -1,0 +1,77 @@
+-- The literals and controls that rails allow.
+use Rattle.std.proofs.Common.{◌≡◌, ℕ, suc, zero, ◌+◌, ◌*◌, ◌≤◌, ◌<◌, inl, inr, Bool, true, false, IsTrue, cond, List, [], ◌∷◌, ◌++◌, length, refl, sym, ap, ◌∙◌, subst, arith, append_assoc}
+use Rattle.std.specs.Prelude.{All}
+use Rattle.std.specs.List.{Contains, filter, flat_map, range_with_len}
+use Rattle.std.proofs.lemmas.List.Elements.{All-nil, All-cons, All-append, All-filter, All-weaker, filter_passes, filter-append}
+use Rattle.cube_core.specs.Assignment.{bit}
+use Rattle.lattice_grid.specs.declared.control.Control.{Control}
+use Rattle.lattice_grid.specs.declared.control.Control.TheVariants.{Zero, One, Plain, Bar}
+use Rattle.lattice_grid.specs.Control.{NamesBelow}
+use Rattle.lattice_grid.specs.Rails.{is_allowed, MayStand, literals_below, literals_of, controls_of}
+use Rattle.lattice_grid.proofs.Lists.{flat_map_range_more}
+
+-- all bits of the greatest rails are set
+pub all_bits : (i : ℕ) → i < 10 → IsTrue (bit 1048575 (2 * i)) × IsTrue (bit 1048575 (2 * i + 1))
+all_bits zero h = (refl, refl)
+all_bits (suc zero) h = (refl, refl)
+all_bits (suc (suc zero)) h = (refl, refl)
+all_bits (suc (suc (suc zero))) h = (refl, refl)
+all_bits (suc (suc (suc (suc zero)))) h = (refl, refl)
+all_bits (suc (suc (suc (suc (suc zero))))) h = (refl, refl)
+all_bits (suc (suc (suc (suc (suc (suc zero)))))) h = (refl, refl)
+all_bits (suc (suc (suc (suc (suc (suc (suc zero))))))) h = (refl, refl)
+all_bits (suc (suc (suc (suc (suc (suc (suc (suc zero)))))))) h = (refl, refl)
+all_bits (suc (suc (suc (suc (suc (suc (suc (suc (suc zero))))))))) h = (refl, refl)
+all_bits (suc (suc (suc (suc (suc (suc (suc (suc (suc (suc i)))))))))) h = absurd (omega arith)
+
+-- what names an input below a number names one below each larger number
+pub NamesBelow-more : (n m : ℕ) → n ≤ m → (c : Control) → NamesBelow n c → NamesBelow m c
+NamesBelow-more n m more Zero h = tt
+NamesBelow-more n m more One h = tt
+NamesBelow-more n m more (Plain i) h = omega arith
+NamesBelow-more n m more (Bar i) h = omega arith
+
+-- the literals of one input more
+pub literals_of-more : (n rails : ℕ) → literals_of (n + 1) rails ≡ (literals_of n rails ++ filter (is_allowed rails) (Plain n ∷ [])) ++ filter (is_allowed rails) (Bar n ∷ [])
+literals_of-more n rails =
+    ap (filter (is_allowed rails)) (flat_map_range_more (λ i. Plain i ∷ Bar i ∷ []) n)
+    ∙ filter-append (is_allowed rails) (literals_below n) (Plain n ∷ Bar n ∷ [])
+    ∙ ap (λ xs. literals_of n rails ++ xs) (filter-append (is_allowed rails) (Plain n ∷ []) (Bar n ∷ []))
+    ∙ sym (append_assoc (literals_of n rails) (filter (is_allowed rails) (Plain n ∷ [])) (filter (is_allowed rails) (Bar n ∷ [])))
+
+-- two literals of one input are added
+pub literals_pushed : (n rails : ℕ) (start old mid new : List Control) → old ≡ start ++ literals_of n rails → mid ≡ old ++ filter (is_allowed rails) (Plain n ∷ []) → new ≡ mid ++ filter (is_allowed rails) (Bar n ∷ [])
+    → new ≡ start ++ literals_of (n + 1) rails
+literals_pushed n rails start old mid new e f g =
+    let plain : List Control = filter (is_allowed rails) (Plain n ∷ []) in
+    let bar : List Control = filter (is_allowed rails) (Bar n ∷ []) in
+    g ∙ ap (λ xs. xs ++ bar) (f ∙ ap (λ xs. xs ++ plain) e ∙ append_assoc start (literals_of n rails) plain)
+    ∙ append_assoc start (literals_of n rails ++ plain) bar ∙ ap (λ xs. start ++ xs) (sym (literals_of-more n rails))
+
+-- each of the literals names one of the inputs
+names_of_below : (n : ℕ) → All (NamesBelow n) (literals_below n)
+names_of_below zero = All-nil (NamesBelow zero)
+names_of_below (suc n) =
+    let next : suc n ≡ n + 1 = omega arith in
+    let more : literals_below (suc n) ≡ literals_below n ++ Plain n ∷ Bar n ∷ [] = ap literals_below next ∙ flat_map_range_more (λ i. Plain i ∷ Bar i ∷ []) n in
+    subst (All (NamesBelow (suc n))) (sym more) (All-append (NamesBelow (suc n)) (literals_below n) (Plain n ∷ Bar n ∷ [])
+    (All-weaker (NamesBelow n) (NamesBelow (suc n)) (NamesBelow-more n (suc n) (omega arith)) (literals_below n) (names_of_below n))
+    (All-cons (NamesBelow (suc n)) (Plain n) (Bar n ∷ []) (omega arith) (All-cons (NamesBelow (suc n)) (Bar n) [] (omega arith) (All-nil (NamesBelow (suc n))))))
+
+pub literals-MayStand : (n rails : ℕ) → All (MayStand n rails) (literals_of n rails)
+literals-MayStand n rails k d within = (All-filter (is_allowed rails) (NamesBelow n) (literals_below n) (names_of_below n) k d within, filter_passes (is_allowed rails) (literals_below n) k d within)
+
+pub controls-MayStand : (n rails : ℕ) → All (MayStand n rails) (controls_of n rails)
+controls-MayStand n rails =
+    All-cons (MayStand n rails) Zero (One ∷ literals_of n rails) (tt, refl) (All-cons (MayStand n rails) One (literals_of n rails) (tt, refl) (literals-MayStand n rails))
+
+-- what may stand names an input below ten
+pub MayStand-NamesBelow : (n rails : ℕ) → n ≤ 10 → (cells : List Control) → All (MayStand n rails) cells → All (NamesBelow 10) cells
+MayStand-NamesBelow n rails few cells all = All-weaker (MayStand n rails) (NamesBelow 10) (λ c h. NamesBelow-more n 10 few c h.0) cells all
+
+-- the same of lists that are these
+pub literals_stand : (n rails : ℕ) (found : List Control) → found ≡ literals_of n rails → All (MayStand n rails) found
+literals_stand n rails found e = subst (All (MayStand n rails)) (sym e) (literals-MayStand n rails)
+
+pub controls_stand : (n rails : ℕ) (found : List Control) → found ≡ controls_of n rails → All (MayStand n rails) found
+controls_stand n rails found e = subst (All (MayStand n rails)) (sym e) (controls-MayStand n rails)
