@@ -4,7 +4,9 @@ pub mod RailsLaws
 pub mod PairsLaws
 pub mod RisingLaws
 pub mod PathLaws
+pub mod FindLaws
 pub mod ToldLaws
 pub mod RealiseLaws
+pub mod StartLaws
 pub mod NeighbourLaws
 pub mod RepeatLaws

@@ -1,7 +1,8 @@
 -- The members of a set in rising order.
-use Rattle.std.proofs.Common.{◌≡◌, ◌≢◌, ℕ, suc, zero, ◌^◌, ◌≤◌, ◌<◌, inl, inr, true, false, cond, List, [], ◌∷◌, ◌++◌, length, get_or, refl, sym, ap, ◌∙◌, subst, arith, length-append, add-zero}
+use Rattle.std.proofs.Common.{◌≡◌, ◌≢◌, ℕ, suc, zero, ◌+◌, ◌^◌, ◌≤◌, ◌<◌, inl, inr, true, false, cond, List, [], ◌∷◌, ◌++◌, length, get_or, refl, sym, ap, ◌∙◌, subst, arith, length-append, add-zero}
 use Rattle.std.specs.Prelude.{All}
 use Rattle.std.specs.FinSet as set
+use Rattle.std.proofs.lemmas.Bool.{cases_lt}
 use Rattle.std.proofs.lemmas.Bool.Decides.{eqb_tells}
 use Rattle.std.proofs.lemmas.List.{get_or_append_left, get_or-append-add}
 use Rattle.std.proofs.lemmas.List.Elements.{All-nil, All-push, All-weaker}
@@ -95,3 +96,40 @@ not_both f h x y on off same = h.disjoint x on (subst (λ z. set.contains f.off 
 -- the on and off assignments are apart, as lists that are these
 pub AreApart-read : (f : Function) → IsFunction f → (ons offs : List ℕ) → ons ≡ rising (2 ^ f.inputs) f.on → offs ≡ rising (2 ^ f.inputs) f.off → AreTold (λ on off. on ≢ off) ons offs
 AreApart-read f h ons offs p q = rw (p, q) (rising_AreTold f (λ on off. on ≢ off) h (λ x y on off. not_both f h x y on.1 off.1))
+
+-- at most 1,024 of them, in a list that is this
+pub few_read : (f : Function) (s : Assignments) (xs : List ℕ) → IsFunction f → xs ≡ rising (2 ^ f.inputs) s → length xs ≤ 1024
+few_read f s xs h e = rw e (length-rising_few f s h)
+
+-- the members rise
+pub rising_rises : (n : ℕ) (s : Assignments) (k j : ℕ) → k < j → j < length (rising n s) → get_or (rising n s) k 0 < get_or (rising n s) j 0
+rising_rises zero s k j h within = absurd (omega arith)
+rising_rises (suc n) s k j h within = elim (set.contains s n) as (λ b. j < length (cond b (rising n s ++ n ∷ []) (rising n s)) → get_or (cond b (rising n s ++ n ∷ []) (rising n s)) k 0 < get_or (cond b (rising n s ++ n ∷ []) (rising n s)) j 0) [
+  | true ↦ λ w. pushed w (rising_rises n s k j h)
+  | false ↦ λ w. rising_rises n s k j h w
+] within where
+  pushed : j < length (rising n s ++ n ∷ []) → (j < length (rising n s) → get_or (rising n s) k 0 < get_or (rising n s) j 0) → get_or (rising n s ++ n ∷ []) k 0 < get_or (rising n s ++ n ∷ []) j 0
+  pushed w before =
+      let long = length-append (rising n s) (n ∷ []) in
+      elim (cases_lt j (length (rising n s))) [
+        | inl inside ↦ subst (λ a. a < get_or (rising n s ++ n ∷ []) j 0) (sym (get_or_append_left (rising n s) (n ∷ []) 0 k (omega arith)))
+            (subst (λ b. get_or (rising n s) k 0 < b) (sym (get_or_append_left (rising n s) (n ∷ []) 0 j inside)) (before inside))
+        | inr last ↦
+            let at : j ≡ length (rising n s) + 0 = omega arith in
+            let end : get_or (rising n s ++ n ∷ []) j 0 ≡ n = ap (λ i. get_or (rising n s ++ n ∷ []) i 0) at ∙ get_or-append-add (rising n s) (n ∷ []) 0 0 in
+            let first : get_or (rising n s ++ n ∷ []) k 0 ≡ get_or (rising n s) k 0 = get_or_append_left (rising n s) (n ∷ []) 0 k (omega arith) in
+            let small = (All-rising n s k 0 (omega arith)).0 in
+            omega arith
+      ]
+
+-- a smaller member stands before a larger one
+pub place_before : (n : ℕ) (s : Assignments) (j a : ℕ) (at : HasPlace (rising n s) a) → j < length (rising n s) → a < get_or (rising n s) j 0 → at.place < j
+place_before n s j a at within less = elim (cases_lt at.place j) [
+  | inl before ↦ before
+  | inr past ↦
+      let here : get_or (rising n s) at.place 0 ≡ a = at.here 0 in
+      elim (eqb_tells j at.place) [
+        | inl same ↦ let e : get_or (rising n s) j 0 ≡ get_or (rising n s) at.place 0 = ap (λ i. get_or (rising n s) i 0) same.1 in absurd (omega arith)
+        | inr other ↦ let ne : j ≢ at.place = other.1 in let rises = rising_rises n s j at.place (omega arith) at.within in absurd (omega arith)
+      ]
+]

@@ -8,4 +8,5 @@ pub mod Rails
 pub mod Realise
 pub mod Rectangle
 pub mod Repeated
+pub mod Start
 pub mod Told

@@ -4,10 +4,12 @@
 pub mod array;
 pub mod control;
 pub mod grid;
+pub mod laws;
 pub mod neighbours;
 pub mod pairs;
 pub mod rails;
 mod repeat;
 pub mod rising;
 pub mod shape;
+pub mod start;
 mod told;
