@@ -9,4 +9,5 @@ pub mod ToldLaws
 pub mod RealiseLaws
 pub mod StartLaws
 pub mod NeighbourLaws
+pub mod DrawnLaws
 pub mod RepeatLaws

@@ -1,13 +1,17 @@
 -- The literals and controls that rails allow.
-use Rattle.std.proofs.Common.{◌≡◌, ℕ, suc, zero, ◌+◌, ◌*◌, ◌≤◌, ◌<◌, inl, inr, Bool, true, false, IsTrue, cond, List, [], ◌∷◌, ◌++◌, length, refl, sym, ap, ◌∙◌, subst, arith, append_assoc}
+use Rattle.std.proofs.Common.{◌≡◌, ℕ, suc, zero, ◌+◌, ◌*◌, ◌≤◌, ◌<◌, inl, inr, Bool, true, false, IsTrue, cond, List, [], ◌∷◌, ◌++◌, length, get_or, refl, sym, ap, ◌∙◌, subst, arith, append_assoc}
 use Rattle.std.specs.Prelude.{All}
+use Rattle.std.proofs.Math.ListN.{get_or-eq_default}
+use Rattle.std.proofs.lemmas.Bool.{cases_lt}
 use Rattle.std.specs.List.{Contains, filter, flat_map, range_with_len}
 use Rattle.std.proofs.lemmas.List.Elements.{All-nil, All-cons, All-append, All-filter, All-weaker, filter_passes, filter-append}
 use Rattle.cube_core.specs.Assignment.{bit}
 use Rattle.lattice_grid.specs.declared.control.Control.{Control}
 use Rattle.lattice_grid.specs.declared.control.Control.TheVariants.{Zero, One, Plain, Bar}
 use Rattle.lattice_grid.specs.Control.{NamesBelow}
-use Rattle.lattice_grid.specs.Rails.{is_allowed, MayStand, literals_below, literals_of, controls_of}
+use Rattle.lattice_grid.specs.declared.shape.Place.{Place}
+use Rattle.lattice_grid.specs.Lattice.{Lattice, control_at}
+use Rattle.lattice_grid.specs.Rails.{is_allowed, MayStand, IsOverRails, literals_below, literals_of, controls_of}
 use Rattle.lattice_grid.proofs.Lists.{flat_map_range_more}
 
 -- all bits of the greatest rails are set
@@ -75,3 +79,12 @@ literals_stand n rails found e = subst (All (MayStand n rails)) (sym e) (literal
 
 pub controls_stand : (n rails : ℕ) (found : List Control) → found ≡ controls_of n rails → All (MayStand n rails) found
 controls_stand n rails found e = subst (All (MayStand n rails)) (sym e) (controls-MayStand n rails)
+
+-- the control at any place of a lattice may stand
+pub stands_at : (n rails : ℕ) (g : Lattice) (p : Place) → IsOverRails n rails g → MayStand n rails (control_at g p)
+stands_at n rails g p over =
+    let i : ℕ = p.row * g.size.cols + p.col in
+    elim (cases_lt i (length g.cells)) [
+      | inl within ↦ over i Zero within
+      | inr past ↦ subst (MayStand n rails) (sym (get_or-eq_default g.cells Zero past)) (tt, refl)
+    ]

@@ -13,11 +13,12 @@ use Rattle.lattice_grid.specs.Control.{NamesBelow}
 use Rattle.lattice_grid.specs.Lattice.{Lattice, IsOver, control_at}
 use Rattle.lattice_grid.specs.Rectangle.{Size}
 use Rattle.lattice_grid.specs.Repeated.{nearest, IsRepeated}
+use Rattle.lattice_grid.specs.Drawn.{IsDrawn}
+use Rattle.lattice_grid.specs.Path.{IsWithin}
+use Rattle.lattice_grid.specs.Rails.{MayStand, IsOverRails}
 use Rattle.lattice_grid.proofs.NeighbourLaws.{place_eq}
-
--- the place with an index, in rows of so many cells
-abbrev pub place_at : ℕ → ℕ → Place
-place_at cols k = record { row = k / cols; col = k % cols }
+use Rattle.lattice_grid.proofs.DrawnLaws.{place_at, drawn_All}
+use Rattle.lattice_grid.proofs.RailsLaws.{stands_at}
 
 -- The cells are, one after another, those of a lattice at the nearest places.
 pub record AreRepeated (g : Lattice) (cols : ℕ) (cells : List Control) : Type 0 where
@@ -46,28 +47,12 @@ IsRepeated-read g s cells large many h is = subst (IsRepeated g s) (sym is) (rec
 pub IsOver-read : (n : ℕ) (g : Lattice) (s : Size) (cells : List Control) (large : Lattice) → AreRepeated g s.cols cells → large ≡ record { size = s; cells = cells } → IsOver n g → IsOver n large
 IsOver-read n g s cells large h is over = subst (IsOver n) (sym is) (names_repeated n g s.cols cells h over)
 
--- what the code has read when all places are done
-pub AreRepeated-read : (g : Lattice) (cols width n : ℕ) (cells : List Control) → width ≡ cols → length cells ≡ n → ((k : ℕ) → k < n → get_or cells k Zero ≡ control_at g (nearest g.size (place_at width k))) → AreRepeated g cols cells
-AreRepeated-read g cols width n cells e many h = subst (λ w. AreRepeated g w cells) e (record { same = λ k within. h k (omega (arith, many)) })
+-- a lattice that is drawn from the nearest places repeats
+pub IsRepeated-drawn : (g : Lattice) (s : Size) (large : Lattice) → IsDrawn (λ p. control_at g (nearest g.size p)) s large → IsRepeated g s large
+IsRepeated-drawn g s large h = record { size_is = h.size_is; same = λ p within. h.same p (subst (λ z. IsWithin z p) h.size_is within) }
 
--- the first so many cells have been read
-pub record IsRepeatedTo (g : Lattice) (cols n : ℕ) (cells : List Control) : Type 0 where
-  pub many : length cells ≡ n
-  pub inputs : All (NamesBelow 10) cells
-  pub same : (k : ℕ) → k < n → get_or cells k Zero ≡ control_at g (nearest g.size (place_at cols k))
+pub names_drawn : (n : ℕ) (g : Lattice) (s : Size) (large : Lattice) → IsDrawn (λ p. control_at g (nearest g.size p)) s large → IsOver n g → IsOver n large
+names_drawn n g s large h over = drawn_All (NamesBelow n) (λ p. control_at g (nearest g.size p)) s large h (λ p _. names_read n g.cells ((nearest g.size p).row * g.size.cols + (nearest g.size p).col) over)
 
-pub IsRepeatedTo-more : (g : Lattice) (cols n : ℕ) (cells new : List Control) (row col : ℕ) (x : Control) → IsRepeatedTo g cols n cells → x ≡ control_at g (record { row = row; col = col }) → row ≡ min (n / cols) (g.size.rows - 1) → col ≡ min (n % cols) (g.size.cols - 1) → NamesBelow 10 x → new ≡ cells ++ x ∷ [] → IsRepeatedTo g cols (n + 1) new
-IsRepeatedTo-more g cols n cells new row col x h is e f below now = subst (IsRepeatedTo g cols (n + 1)) (sym now) (record {
-  many = omega (arith, length-append cells (x ∷ []), h.many);
-  inputs = All-push (NamesBelow 10) cells x h.inputs below;
-  same = λ k within. elim (cases_eq k n) [
-    | inl last ↦
-        let at : k ≡ length cells + 0 = omega (arith, h.many) in
-        ap (λ i. get_or (cells ++ x ∷ []) i Zero) at ∙ get_or-append-add cells (x ∷ []) 0 Zero ∙ is
-        ∙ ap (control_at g) (place_eq (record { row = row; col = col }) (nearest g.size (place_at cols n)) e f)
-        ∙ ap (λ i. control_at g (nearest g.size (place_at cols i))) (sym last)
-    | inr other ↦
-        let before : k < n = omega arith in
-        get_or_append_left cells (x ∷ []) Zero k (omega (arith, h.many)) ∙ h.same k before
-  ];
-})
+pub stands_drawn : (n rails : ℕ) (g : Lattice) (s : Size) (large : Lattice) → IsDrawn (λ p. control_at g (nearest g.size p)) s large → IsOverRails n rails g → IsOverRails n rails large
+stands_drawn n rails g s large h over = drawn_All (MayStand n rails) (λ p. control_at g (nearest g.size p)) s large h (λ p _. stands_at n rails g (nearest g.size p) over)

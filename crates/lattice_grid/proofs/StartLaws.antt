@@ -26,7 +26,7 @@ use Rattle.lattice_grid.specs.Realise.{Joined, Realises}
 use Rattle.lattice_grid.specs.Start.{tells, telling_among, pairs_in, lacking_in, lattice_among, pair_or, start_between, pairs_over, AreToldApart, IsFirstLacking, NeverRealised, IsLackingFirst, IsLackingFinal, IsStartRight, IsOverFull, MatchStart}
 use Rattle.lattice_grid.specs.Told.{told_lattice, told_cells, AreTold}
 use Rattle.lattice_grid.proofs.FindLaws.{IfSome-find, find-None-Contains, IsFoundAt, find-Some, IsPairAt, pairs_in-Some, pairs_in-None}
-use Rattle.lattice_grid.proofs.RailsLaws.{literals_of-more, literals-MayStand, MayStand-NamesBelow}
+use Rattle.lattice_grid.proofs.RailsLaws.{literals_of-more, literals-MayStand, MayStand-NamesBelow, stands_at}
 use Rattle.lattice_grid.proofs.RealiseLaws.{on_places, off_places, zero-Realises, one-Realises}
 use Rattle.lattice_grid.proofs.RisingLaws.{HasPlace, All-rising, length-rising_few, place_before}
 use Rattle.lattice_grid.proofs.ToldLaws.{TellsAll, told-Realises, All-told_cells, length-told_cells}
@@ -188,15 +188,6 @@ module _ (f : Function) (h : IsFunction f) (rails : ℕ) where
   pair_found = start_pair (rising (2 ^ f.inputs) f.on) (rising (2 ^ f.inputs) f.off)
 
 -- ---- a pair that no allowed literal tells apart
--- the control at any place of a lattice may stand
-stands_at : (n rails : ℕ) (g : Lattice) (p : Place) → IsOverRails n rails g → MayStand n rails (control_at g p)
-stands_at n rails g p over =
-    let i : ℕ = p.row * g.size.cols + p.col in
-    elim (cases_lt i (length g.cells)) [
-      | inl within ↦ over i Zero within
-      | inr past ↦ subst (MayStand n rails) (sym (get_or-eq_default g.cells Zero past)) (tt, refl)
-    ]
-
 -- what is on at x is on at y
 on_at_both : (n rails x y : ℕ) → (AreToldApart n rails x y → ⊥) → (c : Control) → MayStand n rails c → value_of c x ≡ true → value_of c y ≡ true
 on_at_both n rails x y alike c stands on = elim (cases_Bool (value_of c y)) [
@@ -206,13 +197,16 @@ on_at_both n rails x y alike c stands on = elim (cases_Bool (value_of c y)) [
 
 -- so a path at x is a path at y
 joined_at_both : (n rails x y : ℕ) (g : Lattice) → (AreToldApart n rails x y → ⊥) → IsOverRails n rails g → Joined g x → Joined g y
-joined_at_both n rails x y g alike over joined = (joined.0, record {
-  inside = joined.1.inside;
-  in_set = λ k d within. on_at_both n rails x y alike (control_at g (get_or joined.0 k d)) (stands_at n rails g (get_or joined.0 k d) over) (joined.1.in_set k d within);
-  chained = joined.1.chained;
-  starts = joined.1.starts;
-  ends = joined.1.ends;
-})
+joined_at_both n rails x y g alike over joined = (
+  joined.0,
+  record {
+    inside = joined.1.inside;
+    in_set = λ k d within. on_at_both n rails x y alike (control_at g (get_or joined.0 k d)) (stands_at n rails g (get_or joined.0 k d) over) (joined.1.in_set k d within);
+    chained = joined.1.chained;
+    starts = joined.1.starts;
+    ends = joined.1.ends;
+  },
+)
 
 never : (f : Function) (rails x y : ℕ) → set.contains f.on x ≡ true → set.contains f.off y ≡ true → (AreToldApart f.inputs rails x y → ⊥) → NeverRealised f rails
 never f rails x y on off alike g kept over realises = realises.off y off (joined_at_both f.inputs rails x y g alike over (realises.on x on))
@@ -243,14 +237,16 @@ first_once f rails x y a b h k =
     let same : x ≡ a = elim (cases_order x a) [
       | inl e ↦ e
       | inr other ↦ elim other [ inl less ↦ absurd (h.alike (k.least_on x y less h.on h.off)) | inr more ↦ absurd (k.alike (h.least_on a b more k.on k.off)) ]
-    ] in
-    (same, elim (cases_order y b) [
-      | inl e ↦ e
-      | inr other ↦ elim other [
-        | inl less ↦ absurd (h.alike (subst (λ z. AreToldApart f.inputs rails z y) (sym same) (k.least_off y less h.off)))
-        | inr more ↦ absurd (k.alike (subst (λ z. AreToldApart f.inputs rails z b) same (h.least_off b more k.off)))
-      ]
-    ])
+    ] in (
+      same,
+      elim (cases_order y b) [
+        | inl e ↦ e
+        | inr other ↦ elim other [
+          | inl less ↦ absurd (h.alike (subst (λ z. AreToldApart f.inputs rails z y) (sym same) (k.least_off y less h.off)))
+          | inr more ↦ absurd (k.alike (subst (λ z. AreToldApart f.inputs rails z b) same (h.least_off b more k.off)))
+        ]
+      ],
+    )
 
 lacking_of_first : (f : Function) (rails x y : ℕ) → IsFunction f → IsFirstLacking f rails x y → pairs_over f rails ≡ Lacking x y
 lacking_of_first f rails x y h k = go (pairs_over f rails) refl where
@@ -293,9 +289,12 @@ realises_read f rails h (Lacking x y) e = lacking_is_final f rails x y h (sym e)
 pub can_tell_all : (literals : List Control) (ons offs : List ℕ) → All (NamesBelow 10) literals → length ons ≤ 1024 → length offs ≤ 1024 → lacking_in literals ons offs ≡ None
     → AreTold (λ on off. All (NamesBelow 10) literals × IsSome (telling_among literals on off)) ons offs
 can_tell_all literals ons offs names few few' none = record {
-  told = λ j d within k e inside. (names, subst (λ y. IsSome (telling_among literals (get_or ons k e) y)) (get_or_default offs j 0 d within)
-      (subst (λ x. IsSome (telling_among literals x (get_or offs j 0))) (get_or_default ons k 0 e inside)
-      (some-is_none (telling_among literals (get_or ons k 0) (get_or offs j 0)) (pairs_in-None (λ pair. is_none (telling_among literals pair.0 pair.1)) ons offs none k j inside within))));
+  told = λ j d within k e inside. (
+    names,
+    subst (λ y. IsSome (telling_among literals (get_or ons k e) y)) (get_or_default offs j 0 d within)
+        (subst (λ x. IsSome (telling_among literals x (get_or offs j 0))) (get_or_default ons k 0 e inside)
+        (some-is_none (telling_among literals (get_or ons k 0) (get_or offs j 0)) (pairs_in-None (λ pair. is_none (telling_among literals pair.0 pair.1)) ons offs none k j inside within))),
+  );
   few_ons = few;
   few_offs = few';
 }

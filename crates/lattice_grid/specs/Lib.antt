@@ -1,5 +1,6 @@
 pub mod Control
 pub mod Defects
+pub mod Drawn
 pub mod Lattice
 pub mod Neighbours
 pub mod Pairs

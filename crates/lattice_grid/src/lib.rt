@@ -3,6 +3,7 @@
 
 pub mod array;
 pub mod control;
+mod drawn;
 pub mod grid;
 pub mod laws;
 pub mod neighbours;
