@@ -1,7 +1,6 @@
 -- Lattices by the control at each place.
-use Rattle.std.proofs.Common.{◌≡◌, ℕ, suc, zero, ◌+◌, ◌*◌, ◌/◌, ◌%◌, ◌<◌, inl, inr, List, length, get_or, refl, sym, ap, ◌∙◌, subst, arith, [], ◌∷◌, ◌++◌, length-append, Option, Some}
+use Rattle.std.proofs.Common.{◌≡◌, ℕ, suc, zero, ◌+◌, ◌*◌, ◌/◌, ◌%◌, ◌<◌, inl, inr, List, length, get_or, refl, sym, ap, ◌∙◌, subst, arith, [], ◌∷◌, ◌++◌, length-append}
 use Rattle.std.specs.Prelude.{All}
-use Rattle.std.specs.Option.{SomeIff}
 use Rattle.std.proofs.lemmas.Bool.{cases_eq}
 use Rattle.std.proofs.lemmas.List.Elements.{All-from_get_or, All-push}
 use Rattle.std.proofs.lemmas.List.{get_or_append_left, get_or-append-add}

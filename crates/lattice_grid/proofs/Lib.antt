@@ -8,6 +8,7 @@ pub mod FindLaws
 pub mod ToldLaws
 pub mod RealiseLaws
 pub mod StartLaws
+pub mod ColumnsLaws
 pub mod NeighbourLaws
 pub mod DrawnLaws
 pub mod RepeatLaws

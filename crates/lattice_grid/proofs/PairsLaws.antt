@@ -1,5 +1,5 @@
 -- The telling literals name inputs that there are.
-use Rattle.std.proofs.Common.{◌≡◌, ◌≢◌, ℕ, ◌^◌, ◌≤◌, ◌<◌, true, false, cond, sym, subst}
+use Rattle.std.proofs.Common.{◌≢◌, ℕ, ◌^◌, ◌≤◌, ◌<◌, true, false, cond, sym, subst}
 use Rattle.cube_core.specs.Assignment.{bit}
 use Rattle.lattice_grid.specs.declared.control.Control.TheVariants.{Plain, Bar}
 use Rattle.lattice_grid.specs.Control.{NamesBelow}

@@ -1,14 +1,12 @@
 -- The cells of a lattice that repeats the last row and column of another.
-use Rattle.std.proofs.Common.{◌≡◌, ℕ, ◌+◌, ◌*◌, ◌/◌, ◌%◌, ◌<◌, inl, inr, List, length, get_or, refl, sym, ap, ◌∙◌, subst, arith, ◌-◌, min, [], ◌∷◌, ◌++◌, length-append}
+use Rattle.std.proofs.Common.{◌≡◌, ℕ, ◌+◌, ◌*◌, ◌<◌, inl, inr, List, length, get_or, refl, sym, ap, ◌∙◌, subst, arith}
 use Rattle.std.specs.Prelude.{All}
 use Rattle.std.proofs.Math.ListN.{get_or-eq_default}
-use Rattle.std.proofs.lemmas.Bool.{cases_lt, cases_eq}
-use Rattle.std.proofs.lemmas.List.Elements.{All-from_get_or, All-push}
-use Rattle.std.proofs.lemmas.List.{get_or_append_left, get_or-append-add}
+use Rattle.std.proofs.lemmas.Bool.{cases_lt}
+use Rattle.std.proofs.lemmas.List.Elements.{All-from_get_or}
 use Rattle.std.proofs.lemmas.Nat.{mul-add-lt, div-mul-add, mod-mul-add}
 use Rattle.lattice_grid.specs.declared.control.Control.{Control}
 use Rattle.lattice_grid.specs.declared.control.Control.TheVariants.{Zero}
-use Rattle.lattice_grid.specs.declared.shape.Place.{Place}
 use Rattle.lattice_grid.specs.Control.{NamesBelow}
 use Rattle.lattice_grid.specs.Lattice.{Lattice, IsOver, control_at}
 use Rattle.lattice_grid.specs.Rectangle.{Size}

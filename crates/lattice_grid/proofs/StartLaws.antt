@@ -1,35 +1,31 @@
 -- The lattice of pairs over rails is right; where a pair is lacking it is the first, and no lattice will do.
-use Rattle.std.proofs.Common.{◌≡◌, ◌≢◌, ◌↔◌, ℕ, suc, zero, ◌+◌, ◌*◌, ◌^◌, ◌≤◌, ◌<◌, ◌⊎◌, inl, inr, Bool, true, false, cond, not, List, [], ◌∷◌, ◌++◌, length, get_or, Option, Some, None, IsSome, IfSome, refl, sym, ap, ◌∙◌, subst, arith, lit≤}
-use Rattle.std.specs.Prelude.{All, ◌&&◌, find, unwrap_or}
-use Rattle.std.specs.Option.{is_none, is_some}
+use Rattle.std.proofs.Common.{◌≡◌, ◌≢◌, ℕ, suc, zero, ◌+◌, ◌^◌, ◌≤◌, ◌<◌, inl, inr, Bool, true, false, cond, not, List, [], ◌∷◌, ◌++◌, length, get_or, Option, Some, None, IsSome, IfSome, refl, sym, ap, ◌∙◌, subst, arith}
+use Rattle.std.specs.Prelude.{All, unwrap_or}
+use Rattle.std.specs.Option.{is_none}
 use Rattle.std.specs.List.{Contains, filter}
 use Rattle.std.specs.FinSet as set
 use Rattle.std.proofs.lemmas.Bool.{true≢false, false≢true, and_parts, and_from, not-true, not_from_false, cases_Bool, cases_lt, cases_order, both_ways}
 use Rattle.std.proofs.lemmas.List.Elements.{All-cons, All-nil, All-weaker, Contains-append_left, Contains-append_right, Contains-push}
-use Rattle.std.proofs.lemmas.List.{get_or_default, get_or-append_right, get_or_append_left}
+use Rattle.std.proofs.lemmas.List.{get_or_default}
 use Rattle.std.proofs.lemmas.Nat.{mul-le}
-use Rattle.std.proofs.Math.ListN.{get_or-eq_default}
 use Rattle.cube_core.specs.Function.{Function, IsFunction}
-use Rattle.cube_core.specs.Members.{Assignments}
 use Rattle.cube_core.specs.Rising.{rising}
 use Rattle.lattice_grid.specs.declared.control.Control.{Control}
 use Rattle.lattice_grid.specs.declared.control.Control.TheVariants.{Zero, One, Plain, Bar}
-use Rattle.lattice_grid.specs.declared.shape.Place.{Place}
 use Rattle.lattice_grid.specs.declared.start.Start.{Start}
 use Rattle.lattice_grid.specs.declared.start.Start.TheVariants.{Grid, Lacking}
 use Rattle.lattice_grid.specs.Control.{value_of, NamesBelow}
-use Rattle.lattice_grid.specs.Lattice.{Lattice, IsLattice, IsOver, control_at, is_on_at}
-use Rattle.lattice_grid.specs.Path.{JoinedBy, IsCrossing, AreFourNeighbours}
+use Rattle.lattice_grid.specs.Lattice.{Lattice, IsLattice, control_at}
 use Rattle.lattice_grid.specs.Pairs.{single}
 use Rattle.lattice_grid.specs.Rails.{is_allowed, MayStand, IsOverRails, IsFull, literals_of}
 use Rattle.lattice_grid.specs.Realise.{Joined, Realises}
-use Rattle.lattice_grid.specs.Start.{tells, telling_among, pairs_in, lacking_in, lattice_among, pair_or, start_between, pairs_over, AreToldApart, IsFirstLacking, NeverRealised, IsLackingFirst, IsLackingFinal, IsStartRight, IsOverFull, MatchStart}
-use Rattle.lattice_grid.specs.Told.{told_lattice, told_cells, AreTold}
-use Rattle.lattice_grid.proofs.FindLaws.{IfSome-find, find-None-Contains, IsFoundAt, find-Some, IsPairAt, pairs_in-Some, pairs_in-None}
+use Rattle.lattice_grid.specs.Start.{tells, telling_among, lacking_in, lattice_among, pair_or, start_between, pairs_over, AreToldApart, IsFirstLacking, NeverRealised, IsLackingFirst, IsLackingFinal, IsStartRight, IsOverFull, MatchStart}
+use Rattle.lattice_grid.specs.Told.{AreTold}
+use Rattle.lattice_grid.proofs.FindLaws.{IfSome-find, find-None-Contains, find-Some, IsPairAt, pairs_in-Some, pairs_in-None}
 use Rattle.lattice_grid.proofs.RailsLaws.{literals_of-more, literals-MayStand, MayStand-NamesBelow, stands_at}
 use Rattle.lattice_grid.proofs.RealiseLaws.{on_places, off_places, zero-Realises, one-Realises}
 use Rattle.lattice_grid.proofs.RisingLaws.{HasPlace, All-rising, length-rising_few, place_before}
-use Rattle.lattice_grid.proofs.ToldLaws.{TellsAll, told-Realises, All-told_cells, length-told_cells}
+use Rattle.lattice_grid.proofs.ToldLaws.{told-Realises, All-told_cells, length-told_cells}
 
 -- ---- which literals there are
 filter_one : (p : Control → Bool) (c : Control) → p c ≡ true → Contains (filter p (c ∷ [])) c
@@ -304,3 +300,13 @@ pub telling_input : (literals : List Control) (x y : ℕ) (o : Option Control) (
 telling_input literals x y o c names e is =
     let found = IfSome-find (NamesBelow 10) (tells x y) literals names in
     (subst (λ r. IfSome r (λ c. NamesBelow 10 c × (tells x y c ≡ true))) (sym e ∙ is) found).0
+
+-- where no pair is lacking an allowed literal tells each on assignment from each off assignment
+pub told_all : (f : Function) (rails x y : ℕ) → IsFunction f → ((a b : ℕ) → pairs_over f rails ≢ Lacking a b) → set.contains f.on x ≡ true → set.contains f.off y ≡ true → AreToldApart f.inputs rails x y
+told_all f rails x y h none on off = elim (cases_Bool (is_none (telling_among (literals_of f.inputs rails) x y))) [
+  | inl alike ↦ absurd (go (alike_from_none f.inputs rails x y alike) (pairs_over f rails) refl)
+  | inr told ↦ told_from_some f.inputs rails x y told
+] where
+  go : (AreToldApart f.inputs rails x y → ⊥) → (s : Start) → pairs_over f rails ≡ s → ⊥
+  go alike (Grid g) e = let right = start_is_right f h rails g e in never f rails x y on off alike g right.kept right.over right.realises
+  go alike (Lacking a b) e = none a b e

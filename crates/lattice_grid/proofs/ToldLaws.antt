@@ -9,7 +9,7 @@ use Rattle.cube_core.specs.Function.{Function}
 use Rattle.lattice_grid.specs.declared.control.Control.{Control}
 use Rattle.lattice_grid.specs.declared.control.Control.TheVariants.{Zero}
 use Rattle.lattice_grid.specs.Control.{value_of}
-use Rattle.lattice_grid.specs.Lattice.{Lattice, is_on_at}
+use Rattle.lattice_grid.specs.Lattice.{is_on_at}
 use Rattle.lattice_grid.specs.Realise.{Joined, Realises}
 use Rattle.lattice_grid.specs.Told.{told_cells, told_lattice}
 use Rattle.lattice_grid.proofs.PathLaws.{joined_by_column, not_joined_past_row}

@@ -1,3 +1,4 @@
+pub mod Columns
 pub mod Control
 pub mod Defects
 pub mod Drawn

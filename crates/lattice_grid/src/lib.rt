@@ -2,6 +2,7 @@
 #![tactic(auto)]
 
 pub mod array;
+pub mod columns;
 pub mod control;
 mod drawn;
 pub mod grid;

@@ -1,4 +1,4 @@
-use Rattle.std.proofs.Common.{◌≡◌, ◌*◌, ◌<◌, List, length, subst, ap, arith, rules}
+use Rattle.std.proofs.Common.{◌≡◌, ◌*◌, length, subst, rules}
 use Rattle.std.specs.Option.{SomeIff}
 use Rattle.lattice_grid.specs.Lattice.{Lattice}
 use Rattle.lattice_grid.proofs.DrawnLaws.{IsDrawn-read, place_read}

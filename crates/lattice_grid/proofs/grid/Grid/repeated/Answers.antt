@@ -1,7 +1,7 @@
-use Rattle.std.proofs.Common.{ℕ, ◌≡◌}
+use Rattle.std.proofs.Common.{ℕ}
 use Rattle.std.proofs.lemmas.Result.{IfOk-weaker}
 use Rattle.lattice_grid.specs.Drawn.{IsDrawn}
-use Rattle.lattice_grid.specs.Lattice.{Lattice, IsOver, control_at}
+use Rattle.lattice_grid.specs.Lattice.{IsOver, control_at}
 use Rattle.lattice_grid.specs.Rails.{IsOverRails}
 use Rattle.lattice_grid.specs.Repeated.{nearest}
 use Rattle.lattice_grid.proofs.RepeatLaws.{names_drawn, stands_drawn}
