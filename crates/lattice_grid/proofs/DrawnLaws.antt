@@ -1,8 +1,10 @@
 -- Lattices by the control at each place.
-use Rattle.std.proofs.Common.{◌≡◌, ℕ, suc, zero, ◌+◌, ◌*◌, ◌/◌, ◌%◌, ◌<◌, inl, inr, List, length, get_or, refl, sym, ap, ◌∙◌, subst, arith, [], ◌∷◌, ◌++◌, length-append}
+use Rattle.std.proofs.Common.{◌≡◌, ℕ, suc, zero, ◌+◌, ◌*◌, ◌/◌, ◌%◌, ◌<◌, inl, inr, List, length, get_or, refl, sym, ap, ◌∙◌, subst, arith, [], ◌∷◌, ◌++◌, length-append, map}
 use Rattle.std.specs.Prelude.{All}
 use Rattle.std.proofs.lemmas.Bool.{cases_eq}
+use Rattle.std.specs.List.{range_with_len}
 use Rattle.std.proofs.lemmas.List.Elements.{All-from_get_or, All-push}
+use Rattle.std.proofs.lemmas.List.FromFn.{length-map-range_with_len, get_or-map-range_with_len}
 use Rattle.std.proofs.lemmas.List.{get_or_append_left, get_or-append-add}
 use Rattle.std.proofs.lemmas.Nat.{mul-add-lt, div-mul-add, mod-mul-add, div-add-mod', div_below}
 use Rattle.lattice_grid.specs.declared.control.Control.{Control}
@@ -73,3 +75,17 @@ drawn_All P control s g h each = All-from_get_or P g.cells Zero (λ k within.
 -- the place that the code has for an index
 pub place_read : (s : Size) (Covers : Place → Type 0) (k cols : ℕ) → cols ≡ s.cols → k < s.rows * s.cols → ((p : Place) → IsWithin s p → Covers p) → Covers (place_at cols k)
 place_read s Covers k cols e below covers = subst (λ c. Covers (place_at c k)) (sym e) (covers (place_at s.cols k) (place_at_within s k below))
+
+-- the lattice that has each control that is given
+abbrev pub picture : (Place → Control) → Size → Lattice
+picture control s = record { size = s; cells = map (λ k. control (place_at s.cols k)) (range_with_len 0 (s.rows * s.cols)) }
+
+pub picture-IsDrawn : (control : Place → Control) (s : Size) → IsDrawn control s (picture control s)
+picture-IsDrawn control s = record {
+  size_is = refl;
+  whole = length-map-range_with_len (λ k. control (place_at s.cols k)) 0 (s.rows * s.cols);
+  same = λ p within.
+      let below : p.row * s.cols + p.col < s.rows * s.cols = omega (arith, mul-add-lt p.row s.cols p.col s.rows within.0 within.1) in
+      get_or-map-range_with_len (λ k. control (place_at s.cols k)) 0 (s.rows * s.cols) (p.row * s.cols + p.col) (p.row * s.cols + p.col) Zero below (omega arith)
+      ∙ ap control (place_at-index s p within);
+}
