@@ -1,10 +1,10 @@
 -- The literals and controls that rails allow.
-use Rattle.std.proofs.Common.{◌≡◌, ℕ, suc, zero, ◌+◌, ◌*◌, ◌≤◌, ◌<◌, inl, inr, IsTrue, List, [], ◌∷◌, ◌++◌, length, refl, sym, ap, ◌∙◌, subst, arith, append_assoc}
+use Rattle.std.proofs.Common.{◌≡◌, ℕ, suc, zero, ◌+◌, ◌*◌, ◌≤◌, ◌<◌, inl, inr, IsTrue, List, [], ◌∷◌, ◌++◌, length, refl, sym, ap, ◌∙◌, subst, arith, append_assoc, length-append, Bool, true, false, cond, get_or}
 use Rattle.std.specs.Prelude.{All}
 use Rattle.std.proofs.Math.ListN.{get_or-eq_default}
 use Rattle.std.proofs.lemmas.Bool.{cases_lt}
-use Rattle.std.specs.List.{filter}
-use Rattle.std.proofs.lemmas.List.Elements.{All-nil, All-cons, All-append, All-filter, All-weaker, filter_passes, filter-append}
+use Rattle.std.specs.List.{Contains, filter}
+use Rattle.std.proofs.lemmas.List.Elements.{All-nil, All-cons, All-append, All-filter, All-weaker, filter_passes, filter-append, Contains-append_left, Contains-append_right, Contains-push}
 use Rattle.cube_core.specs.Assignment.{bit}
 use Rattle.lattice_grid.specs.declared.control.Control.{Control}
 use Rattle.lattice_grid.specs.declared.control.Control.TheVariants.{Zero, One, Plain, Bar}
@@ -88,3 +88,71 @@ stands_at n rails g p over =
       | inl within ↦ over i Zero within
       | inr past ↦ subst (MayStand n rails) (sym (get_or-eq_default g.cells Zero past)) (tt, refl)
     ]
+
+-- ---- which literals there are
+filter_one : (p : Control → Bool) (c : Control) → p c ≡ true → Contains (filter p (c ∷ [])) c
+filter_one p c e = subst (λ b. Contains (cond b (c ∷ []) []) c) (sym e) (Contains-push [] c)
+
+-- each allowed literal of an input below n is one of them
+pub literals-Plain : (n rails i : ℕ) → i < n → is_allowed rails (Plain i) ≡ true → Contains (literals_of n rails) (Plain i)
+literals-Plain zero rails i h e = absurd (omega arith)
+literals-Plain (suc n) rails i h e =
+    let next : suc n ≡ n + 1 = omega arith in
+    let before : List Control = literals_of n rails in
+    let plain : List Control = filter (is_allowed rails) (Plain n ∷ []) in
+    let bar : List Control = filter (is_allowed rails) (Bar n ∷ []) in
+    subst (λ xs. Contains xs (Plain i)) (sym (ap (λ k. literals_of k rails) next ∙ literals_of-more n rails)) (elim (cases_lt i n) [
+      | inl below ↦ Contains-append_left (before ++ plain) bar (Plain i) (Contains-append_left before plain (Plain i) (literals-Plain n rails i below e))
+      | inr past ↦
+          let same : n ≡ i = omega arith in
+          Contains-append_left (before ++ plain) bar (Plain i) (Contains-append_right before plain (Plain i) (subst (λ k. Contains (filter (is_allowed rails) (Plain k ∷ [])) (Plain i)) (sym same) (filter_one (is_allowed rails) (Plain i) e)))
+    ])
+
+pub literals-Bar : (n rails i : ℕ) → i < n → is_allowed rails (Bar i) ≡ true → Contains (literals_of n rails) (Bar i)
+literals-Bar zero rails i h e = absurd (omega arith)
+literals-Bar (suc n) rails i h e =
+    let next : suc n ≡ n + 1 = omega arith in
+    let before : List Control = literals_of n rails in
+    let plain : List Control = filter (is_allowed rails) (Plain n ∷ []) in
+    let bar : List Control = filter (is_allowed rails) (Bar n ∷ []) in
+    subst (λ xs. Contains xs (Bar i)) (sym (ap (λ k. literals_of k rails) next ∙ literals_of-more n rails)) (elim (cases_lt i n) [
+      | inl below ↦ Contains-append_left (before ++ plain) bar (Bar i) (Contains-append_left before plain (Bar i) (literals-Bar n rails i below e))
+      | inr past ↦
+          let same : n ≡ i = omega arith in
+          Contains-append_right (before ++ plain) bar (Bar i) (subst (λ k. Contains (filter (is_allowed rails) (Bar k ∷ [])) (Bar i)) (sym same) (filter_one (is_allowed rails) (Bar i) e))
+    ])
+
+-- ---- the controls
+-- each control that may stand is one of them
+pub controls-Contains : (n rails : ℕ) (c : Control) → MayStand n rails c → Contains (controls_of n rails) c
+controls-Contains n rails Zero h = (0, omega arith, refl)
+controls-Contains n rails One h = (1, omega arith, refl)
+controls-Contains n rails (Plain i) h = Contains-append_right (Zero ∷ One ∷ []) (literals_of n rails) (Plain i) (literals-Plain n rails i h.0 h.1)
+controls-Contains n rails (Bar i) h = Contains-append_right (Zero ∷ One ∷ []) (literals_of n rails) (Bar i) (literals-Bar n rails i h.0 h.1)
+
+-- a control by its number
+pub control_at_number : (n rails c : ℕ) → MayStand n rails (get_or (controls_of n rails) c Zero)
+control_at_number n rails c = elim (cases_lt c (length (controls_of n rails))) [
+  | inl within ↦ controls-MayStand n rails c Zero within
+  | inr past ↦ subst (MayStand n rails) (sym (get_or-eq_default (controls_of n rails) Zero past)) (tt, refl)
+]
+
+filter_few : (p : Control → Bool) (xs : List Control) → length (filter p xs) ≤ length xs
+filter_few p [] = omega arith
+filter_few p (x ∷ xs) = let few = filter_few p xs in elim (p x) as (λ b. length (cond b (x ∷ filter p xs) (filter p xs)) ≤ suc (length xs)) [ true ↦ omega arith | false ↦ omega arith ]
+
+length-literals_below : (n : ℕ) → length (literals_below n) ≡ 2 * n
+length-literals_below zero = refl
+length-literals_below (suc n) =
+    let next : suc n ≡ n + 1 = omega arith in
+    let more : length (literals_below (suc n)) ≡ length (literals_below n ++ Plain n ∷ Bar n ∷ []) = ap (λ k. length (literals_below k)) next ∙ ap length (flat_map_range_more (λ i. Plain i ∷ Bar i ∷ []) n) in
+    let before = length-literals_below n in
+    let both = length-append (literals_below n) (Plain n ∷ Bar n ∷ []) in
+    omega arith
+
+-- there are at most two for each input, and the constants
+pub length-controls_of : (n rails : ℕ) → length (controls_of n rails) ≤ 2 * n + 2
+length-controls_of n rails =
+    let few = filter_few (is_allowed rails) (literals_below n) in
+    let all = length-literals_below n in
+    omega arith

@@ -1,11 +1,10 @@
 -- The lattice of pairs over rails is right; where a pair is lacking it is the first, and no lattice will do.
-use Rattle.std.proofs.Common.{◌≡◌, ◌≢◌, ℕ, suc, zero, ◌+◌, ◌^◌, ◌≤◌, ◌<◌, inl, inr, Bool, true, false, cond, not, List, [], ◌∷◌, ◌++◌, length, get_or, Option, Some, None, IsSome, IfSome, refl, sym, ap, ◌∙◌, subst, arith}
+use Rattle.std.proofs.Common.{◌≡◌, ◌≢◌, ℕ, ◌^◌, ◌≤◌, ◌<◌, inl, inr, Bool, true, false, not, List, [], ◌∷◌, length, get_or, Option, Some, None, IsSome, IfSome, refl, sym, ap, ◌∙◌, subst, arith}
 use Rattle.std.specs.Prelude.{All, unwrap_or}
 use Rattle.std.specs.Option.{is_none}
-use Rattle.std.specs.List.{Contains, filter}
 use Rattle.std.specs.FinSet as set
-use Rattle.std.proofs.lemmas.Bool.{true≢false, false≢true, and_parts, and_from, not-true, not_from_false, cases_Bool, cases_lt, cases_order, both_ways}
-use Rattle.std.proofs.lemmas.List.Elements.{All-cons, All-nil, All-weaker, Contains-append_left, Contains-append_right, Contains-push}
+use Rattle.std.proofs.lemmas.Bool.{true≢false, false≢true, and_parts, and_from, not-true, not_from_false, cases_Bool, cases_order, both_ways}
+use Rattle.std.proofs.lemmas.List.Elements.{All-cons, All-nil, All-weaker}
 use Rattle.std.proofs.lemmas.List.{get_or_default}
 use Rattle.std.proofs.lemmas.Nat.{mul-le}
 use Rattle.cube_core.specs.Function.{Function, IsFunction}
@@ -17,48 +16,15 @@ use Rattle.lattice_grid.specs.declared.start.Start.TheVariants.{Grid, Lacking}
 use Rattle.lattice_grid.specs.Control.{value_of, NamesBelow}
 use Rattle.lattice_grid.specs.Lattice.{Lattice, IsLattice, control_at}
 use Rattle.lattice_grid.specs.Pairs.{single}
-use Rattle.lattice_grid.specs.Rails.{is_allowed, MayStand, IsOverRails, IsFull, literals_of}
+use Rattle.lattice_grid.specs.Rails.{MayStand, IsOverRails, IsFull, literals_of}
 use Rattle.lattice_grid.specs.Realise.{Joined, Realises}
 use Rattle.lattice_grid.specs.Start.{tells, telling_among, lacking_in, lattice_among, pair_or, start_between, pairs_over, AreToldApart, IsFirstLacking, NeverRealised, IsLackingFirst, IsLackingFinal, IsStartRight, IsOverFull, MatchStart}
 use Rattle.lattice_grid.specs.Told.{AreTold}
 use Rattle.lattice_grid.proofs.FindLaws.{IfSome-find, find-None-Contains, find-Some, IsPairAt, pairs_in-Some, pairs_in-None}
-use Rattle.lattice_grid.proofs.RailsLaws.{literals_of-more, literals-MayStand, MayStand-NamesBelow, stands_at}
+use Rattle.lattice_grid.proofs.RailsLaws.{literals-MayStand, MayStand-NamesBelow, stands_at, literals-Plain, literals-Bar}
 use Rattle.lattice_grid.proofs.RealiseLaws.{on_places, off_places, zero-Realises, one-Realises}
 use Rattle.lattice_grid.proofs.RisingLaws.{HasPlace, All-rising, length-rising_few, place_before}
 use Rattle.lattice_grid.proofs.ToldLaws.{told-Realises, All-told_cells, length-told_cells}
-
--- ---- which literals there are
-filter_one : (p : Control → Bool) (c : Control) → p c ≡ true → Contains (filter p (c ∷ [])) c
-filter_one p c e = subst (λ b. Contains (cond b (c ∷ []) []) c) (sym e) (Contains-push [] c)
-
--- each allowed literal of an input below n is one of them
-pub literals-Plain : (n rails i : ℕ) → i < n → is_allowed rails (Plain i) ≡ true → Contains (literals_of n rails) (Plain i)
-literals-Plain zero rails i h e = absurd (omega arith)
-literals-Plain (suc n) rails i h e =
-    let next : suc n ≡ n + 1 = omega arith in
-    let before : List Control = literals_of n rails in
-    let plain : List Control = filter (is_allowed rails) (Plain n ∷ []) in
-    let bar : List Control = filter (is_allowed rails) (Bar n ∷ []) in
-    subst (λ xs. Contains xs (Plain i)) (sym (ap (λ k. literals_of k rails) next ∙ literals_of-more n rails)) (elim (cases_lt i n) [
-      | inl below ↦ Contains-append_left (before ++ plain) bar (Plain i) (Contains-append_left before plain (Plain i) (literals-Plain n rails i below e))
-      | inr past ↦
-          let same : n ≡ i = omega arith in
-          Contains-append_left (before ++ plain) bar (Plain i) (Contains-append_right before plain (Plain i) (subst (λ k. Contains (filter (is_allowed rails) (Plain k ∷ [])) (Plain i)) (sym same) (filter_one (is_allowed rails) (Plain i) e)))
-    ])
-
-pub literals-Bar : (n rails i : ℕ) → i < n → is_allowed rails (Bar i) ≡ true → Contains (literals_of n rails) (Bar i)
-literals-Bar zero rails i h e = absurd (omega arith)
-literals-Bar (suc n) rails i h e =
-    let next : suc n ≡ n + 1 = omega arith in
-    let before : List Control = literals_of n rails in
-    let plain : List Control = filter (is_allowed rails) (Plain n ∷ []) in
-    let bar : List Control = filter (is_allowed rails) (Bar n ∷ []) in
-    subst (λ xs. Contains xs (Bar i)) (sym (ap (λ k. literals_of k rails) next ∙ literals_of-more n rails)) (elim (cases_lt i n) [
-      | inl below ↦ Contains-append_left (before ++ plain) bar (Bar i) (Contains-append_left before plain (Bar i) (literals-Bar n rails i below e))
-      | inr past ↦
-          let same : n ≡ i = omega arith in
-          Contains-append_right (before ++ plain) bar (Bar i) (subst (λ k. Contains (filter (is_allowed rails) (Bar k ∷ [])) (Bar i)) (sym same) (filter_one (is_allowed rails) (Bar i) e))
-    ])
 
 -- where none of them tells, what may stand and is 1 at x is 1 at y
 pub none_tells : (n rails x y : ℕ) → telling_among (literals_of n rails) x y ≡ None → (c : Control) → MayStand n rails c → value_of c x ≡ true → value_of c y ≡ true

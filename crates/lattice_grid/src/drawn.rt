@@ -30,11 +30,9 @@ pub(crate) fn drawn<P: Picture>(alloc: Global, picture: &P, shape: Shape) -> Res
     requires { (p : Place) → IsWithin shape p → P.covers picture.now p }
     ensures { IfOk result (IsDrawn (P.control picture.now) shape) }
 {
-    let cols = shape.cols();
     let mut cells = Vec::new(alloc);
     for index in 0..shape.area() {
-        let (row, col) = (index / cols, index % cols);
-        cells.push(picture.control(Place { row, col }))?;
+        cells.push(picture.control(shape.place(index)))?;
     }
     Ok(Grid::new(shape, cells).unwrap())
 }
