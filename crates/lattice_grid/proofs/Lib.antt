@@ -1,8 +1,14 @@
 pub mod Differences
 pub mod Lists
+pub mod RailsLaws
 pub mod PairsLaws
 pub mod RisingLaws
 pub mod PathLaws
+pub mod FindLaws
+pub mod ToldLaws
 pub mod RealiseLaws
+pub mod StartLaws
+pub mod ColumnsLaws
 pub mod NeighbourLaws
+pub mod DrawnLaws
 pub mod RepeatLaws

@@ -1,9 +1,14 @@
+pub mod Columns
 pub mod Control
 pub mod Defects
+pub mod Drawn
 pub mod Lattice
 pub mod Neighbours
 pub mod Pairs
 pub mod Path
+pub mod Rails
 pub mod Realise
 pub mod Rectangle
 pub mod Repeated
+pub mod Start
+pub mod Told

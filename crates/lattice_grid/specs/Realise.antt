@@ -2,8 +2,9 @@
 use Rattle.std.specs.Prelude.{◌≡◌, ℕ, true}
 use Rattle.std.specs.FinSet as set
 use Rattle.cube_core.specs.Function.{Function}
-use Rattle.lattice_grid.specs.Lattice.{Lattice, IsLattice, IsOver, is_on_at}
+use Rattle.lattice_grid.specs.Lattice.{Lattice, IsLattice, is_on_at}
 use Rattle.lattice_grid.specs.Path.{JoinedBy, CutBy}
+use Rattle.lattice_grid.specs.Rails.{IsOverRails}
 use Rattle.lattice_grid.specs.Rectangle.{Size}
 
 -- a path of cells that are on at x leads from the top row to the bottom row
@@ -19,10 +20,10 @@ pub record Realises (g : Lattice) (f : Function) : Type 0 where
   pub on : (x : ℕ) → set.contains f.on x ≡ true → Joined g x
   pub off : (x : ℕ) → set.contains f.off x ≡ true → Joined g x → ⊥
 
--- Some lattice of this size, whose literals name inputs below n, realises the function.
-pub record IsRealised (n : ℕ) (f : Function) (s : Size) : Type 0 where
+-- Some lattice of this size, whose literals name inputs below n and are allowed, realises the function.
+pub record IsRealised (n rails : ℕ) (f : Function) (s : Size) : Type 0 where
   pub lattice : Lattice
   pub kept : IsLattice lattice
   pub size_is : lattice.size ≡ s
-  pub over : IsOver n lattice
+  pub over : IsOverRails n rails lattice
   pub realises : Realises lattice f

@@ -2,8 +2,9 @@
 use cube_core::assign::Assign;
 
 /// What a switch is controlled by: a constant, an input, or the complement of an input. Inputs are counted from 0 and are below 10.
-#[derive(Clone, Copy, Debug, PartialEq, Eq)]
+#[derive(Clone, Copy, Debug, Default, PartialEq, Eq)]
 pub enum Control {
+    #[default]
     Zero,
     One,
     Plain(u8),

@@ -1,8 +1,9 @@
 //! Rectangles of switches.
-ghost use Rattle.std.specs.Prelude.{◌≡◌, ℕ, ◌*◌, ◌<◌, ◌↔◌, length, All, IsTrue};
+ghost use Rattle.std.specs.Prelude.{◌≡◌, ℕ, ◌*◌, ◌<◌, ◌≤◌, ◌↔◌, length, All, IsTrue};
 ghost use Rattle.std.specs.Option.{SomeIff};
 
 use crate::control::Control;
+use crate::rails::Rails;
 use crate::shape::{Place, Shape};
 use cube_core::assign::Assign;
 use std::marker::Model;
@@ -27,6 +28,7 @@ impl Model for Grid {
 impl Grid {
     ghost use Rattle.lattice_grid.specs.Control.{NamesBelow};
     ghost use Rattle.lattice_grid.specs.Lattice.{Lattice, IsLattice, control_at, is_on_at, row_cells, IsOver};
+    ghost use Rattle.lattice_grid.specs.Rails.{IsOverRails};
 
     /// None exactly where there are not as many cells as the shape has.
     pub fn new(shape: Shape, cells: Vec<Control>) -> Option<Grid>
@@ -82,5 +84,13 @@ impl Grid {
         ensures { IsTrue result ↔ IsOver inputs self.now }
     {
         self.cells.iter().all(|cell| cell.names_below(inputs))
+    }
+
+    /// Whether each literal names an input below `inputs`, at most ten, and is allowed.
+    pub fn allowed(&self, inputs: u8, rails: Rails) -> bool
+        requires { inputs ≤ 10 }
+        ensures { IsTrue result ↔ IsOverRails inputs rails self.now }
+    {
+        self.cells.iter().all(|cell| rails.may_stand(inputs, *cell))
     }
 }

@@ -1,13 +1,38 @@
 //! Larger lattices that repeat the last row or the last column.
 ghost use Rattle.std.specs.Prelude.{◌≡◌, ℕ, ◌+◌, ◌*◌, ◌≤◌, IfOk};
 
+use crate::control::Control;
+use crate::drawn::{Picture, drawn};
 use crate::grid::Grid;
 use crate::shape::{Place, Shape};
 use std::alloc::Global;
 use wire_io::fault::NoMemory;
 
+/// A lattice as a picture that goes on past its last row and its last column.
+#[derive(Clone, Copy)]
+struct Repeating<'a> {
+    grid: &'a Grid,
+}
+
+impl Picture for Repeating<'_> {
+    ghost use Rattle.lattice_grid.specs.Lattice.{control_at};
+    ghost use Rattle.lattice_grid.specs.Repeated.{nearest};
+
+    ghost control = { λ repeating p. control_at repeating.grid.now (nearest repeating.grid.now.size p) };
+
+    ghost covers = { λ _ _. Unit {0} };
+
+    fn control(&self, p: Place) -> Control {
+        let shape = self.grid.shape();
+        let row = p.row.min(shape.rows() - 1);
+        let col = p.col.min(shape.cols() - 1);
+        self.grid.at(Place { row, col })
+    }
+}
+
 impl Grid {
     ghost use Rattle.lattice_grid.specs.Lattice.{IsOver};
+    ghost use Rattle.lattice_grid.specs.Rails.{IsOverRails};
     ghost use Rattle.lattice_grid.specs.Rectangle.{Size};
     ghost use Rattle.lattice_grid.specs.Repeated.{IsRepeated};
 
@@ -16,6 +41,7 @@ impl Grid {
         requires { (self.now.size.rows + 1) * self.now.size.cols ≤ 1048576 }
         ensures cells { let size : Size = record { rows = self.now.size.rows + 1; cols = self.now.size.cols } in IfOk result (IsRepeated self.now size) }
         ensures over { IfOk result (λ grid. (n : ℕ) → IsOver n self.now → IsOver n grid) }
+        ensures rails { IfOk result (λ grid. (n rails : ℕ) → IsOverRails n rails self.now → IsOverRails n rails grid) }
     {
         let shape = self.shape();
         self.repeated(alloc, Shape::new(shape.rows() + 1, shape.cols()).unwrap())
@@ -26,6 +52,7 @@ impl Grid {
         requires { self.now.size.rows * (self.now.size.cols + 1) ≤ 1048576 }
         ensures cells { let size : Size = record { rows = self.now.size.rows; cols = self.now.size.cols + 1 } in IfOk result (IsRepeated self.now size) }
         ensures over { IfOk result (λ grid. (n : ℕ) → IsOver n self.now → IsOver n grid) }
+        ensures rails { IfOk result (λ grid. (n rails : ℕ) → IsOverRails n rails self.now → IsOverRails n rails grid) }
     {
         let shape = self.shape();
         self.repeated(alloc, Shape::new(shape.rows(), shape.cols() + 1).unwrap())
@@ -35,15 +62,8 @@ impl Grid {
     fn repeated(&self, alloc: Global, shape: Shape) -> Result<Grid, NoMemory>
         ensures cells { IfOk result (IsRepeated self.now shape) }
         ensures over { IfOk result (λ grid. (n : ℕ) → IsOver n self.now → IsOver n grid) }
+        ensures rails { IfOk result (λ grid. (n rails : ℕ) → IsOverRails n rails self.now → IsOverRails n rails grid) }
     {
-        let (last_row, last_col) = (self.shape().rows() - 1, self.shape().cols() - 1);
-        let cols = shape.cols();
-        let mut cells = Vec::new(alloc);
-        for index in 0..shape.area() {
-            let row = (index / cols).min(last_row);
-            let col = (index % cols).min(last_col);
-            cells.push(self.at(Place { row, col }))?;
-        }
-        Ok(Grid::new(shape, cells).unwrap())
+        drawn(alloc, &Repeating { grid: self }, shape)
     }
 }

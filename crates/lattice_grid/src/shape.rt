@@ -1,5 +1,5 @@
 //! Sizes of rectangles, and places in them.
-ghost use Rattle.std.specs.Prelude.{◌≡◌, ℕ, ◌*◌};
+ghost use Rattle.std.specs.Prelude.{◌≡◌, ℕ, ◌*◌, ◌/◌, ◌%◌, ◌<◌};
 ghost use Rattle.std.specs.Option.{SomeIff};
 
 use std::marker::Model;
@@ -27,6 +27,8 @@ impl Model for Shape {
 }
 
 impl Shape {
+    ghost use Rattle.lattice_grid.specs.declared.shape.Place.{Place};
+    ghost use Rattle.lattice_grid.specs.Path.{IsWithin};
     ghost use Rattle.lattice_grid.specs.Rectangle.{Size, IsSize};
 
     /// None exactly where there is no row, no column, or more than `CELLS` cells.
@@ -54,6 +56,18 @@ impl Shape {
         ensures size { IsSize self }
     {
         self.cols
+    }
+
+    /// The place of a cell that is counted row by row from 0.
+    pub fn place(self, cell: u32) -> Place
+        requires { cell < self.rows * self.cols }
+        ensures same { let place : Place = record { row = cell / self.cols; col = cell % self.cols } in result ≡ place }
+        ensures within { IsWithin self result }
+    {
+        Place {
+            row: cell / self.cols,
+            col: cell % self.cols,
+        }
     }
 
     /// The number of cells, rows times columns.

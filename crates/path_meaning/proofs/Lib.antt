@@ -13,3 +13,4 @@ pub mod Examples
 pub mod StampLaws
 pub mod FloodLaws
 pub mod Larger
+pub mod Plainly

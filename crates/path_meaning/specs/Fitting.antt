@@ -24,6 +24,6 @@ IsFitting = (small large : Size) (on on' : Place → Bool) → Repeats small lar
 abbrev pub IsRepeatJoined : Type 0
 IsRepeatJoined = (small large : Lattice) (s : Size) → IsSize small.size → FitsInside small.size s → IsRepeated small s large → (x : ℕ) → Joined large x ↔ Joined small x
 
--- What is realised at a size is realised at each size that it fits inside.
+-- What is realised at a size is realised at each size that it fits inside, over the same inputs and rails.
 abbrev pub IsRealisedLarger : Type 0
-IsRealisedLarger = (n : ℕ) (f : Function) (small large : Size) → FitsInside small large → IsSize large → IsRealised n f small → IsRealised n f large
+IsRealisedLarger = (n rails : ℕ) (f : Function) (small large : Size) → FitsInside small large → IsSize large → IsRealised n rails f small → IsRealised n rails f large

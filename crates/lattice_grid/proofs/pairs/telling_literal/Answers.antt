@@ -14,12 +14,18 @@ read on off x y p q bx by apart = rw (p, q) (at_numbers on off (subst (λ n. n <
 pub bit-requires : goal.bit-requires
 bit-requires c = (read _ _ _ _ c.number.ensures.same c.number-2.ensures.same c.number.ensures.below c.number-2.ensures.below c.requires).within
 
-pub returns-then-bit : goal.returns-then-bit
-returns-then-bit c =
+pub returns-then-bit-clause-same : goal.returns-then-bit-clause-same
+returns-then-bit-clause-same c =
     let found = read _ _ _ _ c.number.ensures.same c.number-2.ensures.same c.number.ensures.below c.number-2.ensures.below c.requires in
     sym (telling_plain _ _ _ found.least (sym c.bit.ensures ∙ c.if-bit.true))
 
-pub returns-else-bit : goal.returns-else-bit
-returns-else-bit c =
+pub returns-else-bit-clause-same : goal.returns-else-bit-clause-same
+returns-else-bit-clause-same c =
     let found = read _ _ _ _ c.number.ensures.same c.number-2.ensures.same c.number.ensures.below c.number-2.ensures.below c.requires in
     sym (telling_bar _ _ _ found.least (sym c.bit.ensures ∙ c.if-bit.false))
+
+pub returns-then-bit-clause-input : goal.returns-then-bit-clause-input
+returns-then-bit-clause-input c = (read _ _ _ _ c.number.ensures.same c.number-2.ensures.same c.number.ensures.below c.number-2.ensures.below c.requires).within
+
+pub returns-else-bit-clause-input : goal.returns-else-bit-clause-input
+returns-else-bit-clause-input c = (read _ _ _ _ c.number.ensures.same c.number-2.ensures.same c.number.ensures.below c.number-2.ensures.below c.requires).within

@@ -1,7 +1,6 @@
 use Rattle.path_meaning.proofs.Least.{at_least_one, either_or}
 use Rattle.path_meaning.proofs.Never.{never_both}
 use Rattle.path_meaning.proofs.laws.crossing.Goals as goal
-use Rattle.path_meaning.specs.Crossing.{is_on_with}
 
 pub returns-clause-at_least_one : goal.returns-clause-at_least_one
 returns-clause-at_least_one c = at_least_one
@@ -11,6 +10,3 @@ returns-clause-never_both c = never_both
 
 pub returns-clause-either_or : goal.returns-clause-either_or
 returns-clause-either_or c = either_or
-
-pub returns-clause-stuck : goal.returns-clause-stuck
-returns-clause-stuck c = λ g stuck_open stuck_closed x. either_or g.size (is_on_with g stuck_open stuck_closed x)
