@@ -12,3 +12,4 @@ pub mod ReplayLaws
 pub mod LratLaws
 pub mod ReadLaws
 pub mod StepLaws
+pub mod TallyLaws

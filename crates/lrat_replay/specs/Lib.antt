@@ -10,3 +10,5 @@ pub mod Replay
 pub mod LratRead
 pub mod LratText
 pub mod StepRead
+pub mod Ledger
+pub mod Learned

@@ -6,6 +6,7 @@ ghost use Rattle.lrat_replay.specs.Laws.{IsSound, IsRefutationSound};
 mod deny;
 pub mod fault;
 mod hints;
+pub mod ledger;
 pub mod line;
 pub mod marks;
 mod place;
@@ -14,6 +15,7 @@ pub mod refusal;
 pub mod replay;
 pub mod step_text;
 mod store;
+pub mod tally;
 #[cfg(test)]
 mod tests;
 pub mod turn;
