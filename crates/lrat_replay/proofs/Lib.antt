@@ -13,3 +13,4 @@ pub mod LratLaws
 pub mod ReadLaws
 pub mod StepLaws
 pub mod TallyLaws
+pub mod LearnedLaws

@@ -12,3 +12,4 @@ pub mod LratText
 pub mod StepRead
 pub mod Ledger
 pub mod Learned
+pub mod Together

@@ -2,6 +2,7 @@
 #![tactic(auto)]
 
 ghost use Rattle.lrat_replay.specs.Laws.{IsSound, IsRefutationSound};
+ghost use Rattle.lrat_replay.specs.Together.{LearnTogether, CountTogether, TellTogether, IsSpentByWriting};
 
 mod deny;
 pub mod fault;
@@ -25,4 +26,12 @@ pub mod write;
 pub fn soundness()
     ensures steps { IsSound }
     ensures refutations { IsRefutationSound }
+{}
+
+/// How the steps of a ledger come together.
+pub fn steps_together()
+    ensures learn { LearnTogether }
+    ensures count { CountTogether }
+    ensures tell { TellTogether }
+    ensures spent { IsSpentByWriting }
 {}
