@@ -42,9 +42,9 @@ pub formula-after_steps : (book : Book) (a : List Numbered) → (after_steps boo
 formula-after_steps book [] = refl
 formula-after_steps book (x ∷ a) = formula-after_steps (after_addition book x.id x.clause) a
 
-pub gone-after_steps : (book : Book) (a : List Numbered) → (after_steps book a).gone ≡ book.gone
-gone-after_steps book [] = refl
-gone-after_steps book (x ∷ a) = gone-after_steps (after_addition book x.id x.clause) a
+pub deleted-after_steps : (book : Book) (a : List Numbered) → (after_steps book a).deleted ≡ book.deleted
+deleted-after_steps book [] = refl
+deleted-after_steps book (x ∷ a) = deleted-after_steps (after_addition book x.id x.clause) a
 
 -- two calls come together
 pub Learns-append : (first middle last : Book) (a b : List Numbered) → Learns first middle a → Learns middle last b → Learns first last (a ++ b)

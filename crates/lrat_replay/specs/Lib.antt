@@ -1,5 +1,5 @@
-pub mod Turn
-pub mod TurnStep
+pub mod Status
+pub mod StatusStep
 pub mod Book
 pub mod Laws
 pub mod New

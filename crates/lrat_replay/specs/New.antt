@@ -3,7 +3,7 @@ use Rattle.std.specs.Prelude.{◌≡◌, ℕ, ◌+◌, true, false, not, ◌&&�
 use Rattle.std.specs.List.{Contains}
 use Rattle.clause_core.specs.Literal.{Literal, flip, same, has}
 use Rattle.clause_core.specs.Formula.{Formula}
-use Rattle.lrat_replay.specs.Turn.{Known}
+use Rattle.lrat_replay.specs.Status.{Known}
 use Rattle.lrat_replay.specs.Book.{Book, Numbered, all_of, last_id, live, run, Accepted, Unfinished, addition_fault, after_addition, start}
 
 -- each literal of the one clause is in the other
@@ -58,4 +58,4 @@ pub record Spent (formula : Formula) (steps : List Numbered) (budget : ℕ) : Ty
 -- each step told propagation something, and propagation after them finds no conflict
 pub record IsOpen (formula : Formula) (steps : List Numbered) : Type 0 where
   pub tell : AllTellPropagation (start formula) steps
-  pub undecided : IsUndecided (record { formula = formula; steps = steps; gone = (start formula).gone })
+  pub undecided : IsUndecided (record { formula = formula; steps = steps; deleted = (start formula).deleted })

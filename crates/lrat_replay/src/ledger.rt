@@ -44,7 +44,7 @@ pub trait Ledger {
     /// and nothing was deleted in it.
     fn learn(&mut self, id: u32, clause: &[Lit], hints: &[i32]) -> Result<(), LearnFault>
         requires whole { broken self.old ≡ false }
-        requires all { (book self.old).gone ≡ set.empty }
+        requires all { (book self.old).deleted ≡ set.empty }
         requires hints { All IsAbove0 hints.now }
         requires accepted { books.addition_fault (book self.old) id clause.now hints.now ≡ None }
         ensures ok { OnOk result (book self.new ≡ books.after_addition (book self.old) id clause.now) }

@@ -14,12 +14,12 @@ mod place;
 pub mod read;
 pub mod refusal;
 pub mod replay;
+pub mod status;
 pub mod step_text;
 mod store;
 pub mod tally;
 #[cfg(test)]
 mod tests;
-pub mod turn;
 pub mod write;
 
 /// What replay shows, of all formulas and all lines.

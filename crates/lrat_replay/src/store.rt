@@ -63,7 +63,7 @@ pub struct Store {
     formula: Formula,
     steps: Clauses,
     ids: Vec<u32>,
-    gone: Vec<bool>,
+    deleted: Vec<bool>,
 }
 
 impl Model for Store {
@@ -74,9 +74,9 @@ impl Model for Store {
 
     ghost coded = { coded_book };
 
-    ghost view = { λ store. book_of store.formula store.steps store.ids.items store.gone.items };
+    ghost view = { λ store. book_of store.formula store.steps store.ids.items store.deleted.items };
 
-    ghost invariant = { λ store. IsStore store.formula store.steps store.ids.items store.gone.items };
+    ghost invariant = { λ store. IsStore store.formula store.steps store.ids.items store.deleted.items };
 }
 
 impl Store {
@@ -86,12 +86,12 @@ impl Store {
     {
         let count = formula.count();
         let ids = count_up(alloc, count)?;
-        let gone = no_flags(alloc, count as usize)?;
+        let deleted = no_flags(alloc, count as usize)?;
         Ok(Store {
             formula,
             steps: Clauses::new(alloc),
             ids,
-            gone,
+            deleted,
         })
     }
 
@@ -122,7 +122,7 @@ impl Store {
         ensures over { IfSome result (λ clause. IsOver self.now.formula.vars clause.now) }
     {
         let place = place_of(&self.ids, id)?;
-        if self.gone[place] {
+        if self.deleted[place] {
             return None;
         }
         Some(clause_at(&self.formula, &self.steps, place))
@@ -136,10 +136,10 @@ impl Store {
         ensures err { OnErr result (self.new ≡ self.old) }
     {
         self.ids.reserve(1)?;
-        self.gone.reserve(1)?;
+        self.deleted.reserve(1)?;
         self.steps.push(clause)?;
         self.ids.push(id).unwrap();
-        self.gone.push(false).unwrap();
+        self.deleted.push(false).unwrap();
         Ok(())
     }
 
@@ -152,10 +152,10 @@ impl Store {
         let Some(place) = place_of(&self.ids, id) else {
             return false;
         };
-        if self.gone[place] {
+        if self.deleted[place] {
             return false;
         }
-        self.gone[place] = true;
+        self.deleted[place] = true;
         true
     }
 
@@ -164,7 +164,7 @@ impl Store {
         ensures { (before : Book) → is_live before id ≡ true → without before id ≡ self.old → self.new ≡ before }
     {
         if let Some(place) = place_of(&self.ids, id) {
-            self.gone[place] = false;
+            self.deleted[place] = false;
         }
     }
 

@@ -1,46 +1,14 @@
--- What a turn tells of the literals of its clause, and how to show a turn.
-use Rattle.std.proofs.Common.{◌≡◌, true, false, cond, ◌||◌, List, [], ◌∷◌, ◌⊎◌, inl, inr, refl, ap, sym, ◌∙◌, subst}
+-- What a status tells of the literals of its clause, and how to show a status.
+use Rattle.std.proofs.Common.{◌≡◌, true, false, cond, ◌||◌, List, [], ◌∷◌, ◌⊎◌, inl, inr, refl, ap, sym, ◌∙◌, subst, ◌↔◌}
 use Rattle.std.proofs.lemmas.Bool.{cases_Bool, or_cases, or_parts, or_from, and_parts, and_from, and_cases, true≢false, cond-true, cond-false, both_ways}
-use Rattle.lrat_replay.specs.declared.turn.Turn.TheVariants.{Settled, Wide, Forces, Clashes}
+use Rattle.lrat_replay.specs.declared.status.Status.{Status}
+use Rattle.lrat_replay.specs.declared.status.Status.TheVariants.{Satisfied, Unresolved, Forces, Conflict}
 use Rattle.clause_core.specs.Literal.{Literal, flip, same, has}
 use Rattle.clause_core.proofs.Literals.{same-true, same-at, has-first, has-rest, has-cases}
-use Rattle.lrat_replay.specs.Turn.{Known, some_known, without_value, all_same, turn_by, turn}
-
--- a literal of the clause is true
-pub record IsSettled (known : Known) (clause : List Literal) : Type 0 where
-  pub lit : Literal
-  pub is_in : has clause lit ≡ true
-  pub is_known : known lit ≡ true
-
--- two different literals of the clause have no value
-pub record IsWide (known : Known) (clause : List Literal) : Type 0 where
-  pub one : Literal
-  pub two : Literal
-  pub one_in : has clause one ≡ true
-  pub two_in : has clause two ≡ true
-  pub apart : one ≡ two → ⊥
-  pub one_unknown : known (flip one) ≡ false
-  pub two_unknown : known (flip two) ≡ false
-
--- a clause that neither forces a literal nor clashes
-abbrev pub Rests : Known → List Literal → Type 0
-Rests known clause = IsSettled known clause ⊎ IsWide known clause
-
--- each literal of the clause is false, but for this one
-pub record IsForced (known : Known) (clause : List Literal) (u : Literal) : Type 0 where
-  pub is_in : has clause u ≡ true
-  pub unknown : known u ≡ false
-  pub flip_unknown : known (flip u) ≡ false
-  pub others : (l : Literal) → has clause l ≡ true → (u ≡ l) ⊎ (known (flip l) ≡ true)
-  pub none : (l : Literal) → has clause l ≡ true → known l ≡ false
-
--- each literal of the clause is false
-pub record IsClash (known : Known) (clause : List Literal) : Type 0 where
-  pub all : (l : Literal) → has clause l ≡ true → known (flip l) ≡ true
-  pub none : (l : Literal) → has clause l ≡ true → known l ≡ false
+use Rattle.lrat_replay.specs.Status.{IsSatisfied, IsUnresolved, HasTwoNotFalse, Rests, IsUnit, IsConflict, Known, some_known, without_value, all_same, status_by, status}
 
 module _ (known : Known) where
-  some_known-true : (c : List Literal) → some_known known c ≡ true → IsSettled known c
+  some_known-true : (c : List Literal) → some_known known c ≡ true → IsSatisfied known c
   some_known-true [] h = absurd (cc)
   some_known-true (x ∷ xs) h = elim (or_cases (known x) (some_known known xs) h) [
     | inl e ↦ record { lit = x; is_in = has-first x xs; is_known = e }
@@ -108,11 +76,11 @@ module _ (known : Known) where
   pub valued : (l : Literal) → (known l || known (flip l)) ≡ true → known l ≡ false → known (flip l) ≡ true
   valued l h n = elim (or_cases (known l) (known (flip l)) h) [ inl e ↦ absurd (both_ways (known l) n e) | inr e ↦ e ]
 
-  by_open : (c rest : List Literal) → without_value known c ≡ rest → some_known known c ≡ false → (u : Literal) → turn_by rest ≡ Forces u → IsForced known c u
+  by_open : (c rest : List Literal) → without_value known c ≡ rest → some_known known c ≡ false → (u : Literal) → status_by rest ≡ Forces u → IsUnit known c u
   by_open c [] e s u = λ h. absurd (cc)
   by_open c (x ∷ xs) e s u = elim (cases_Bool (all_same x xs)) [
     | inl a ↦ λ h.
-        let first : x ≡ u = (let k : Forces x ≡ Forces u = sym (cond-true (all_same x xs) (Forces x) Wide a) ∙ h in cc) in
+        let first : x ≡ u = (let k : Forces x ≡ Forces u = sym (cond-true (all_same x xs) (Forces x) Unresolved a) ∙ h in cc) in
         let here : has (without_value known c) u ≡ true = subst (λ o. has o u ≡ true) (sym e) (subst (λ y. has (x ∷ xs) y ≡ true) first (has-first x xs)) in
         let r = without_value-has c u here in
         let p = or_parts (known u) (known (flip u)) r.1 in
@@ -127,10 +95,10 @@ module _ (known : Known) where
           ];
           none = none;
         }
-    | inr a ↦ λ h. let k : Wide ≡ Forces u = sym (cond-false (all_same x xs) (Forces x) Wide a) ∙ h in absurd (cc)
+    | inr a ↦ λ h. let k : Unresolved ≡ Forces u = sym (cond-false (all_same x xs) (Forces x) Unresolved a) ∙ h in absurd (cc)
   ]
 
-  clash_open : (c rest : List Literal) → without_value known c ≡ rest → some_known known c ≡ false → turn_by rest ≡ Clashes → IsClash known c
+  clash_open : (c rest : List Literal) → without_value known c ≡ rest → some_known known c ≡ false → status_by rest ≡ Conflict → IsConflict known c
   clash_open c [] e s = λ h. let none = some_known-false c s in record {
     all = λ l m. elim (cases_Bool (known l || known (flip l))) [
       | inl v ↦ valued l v (none l m)
@@ -139,42 +107,42 @@ module _ (known : Known) where
     none = none;
   }
   clash_open c (x ∷ xs) e s = elim (cases_Bool (all_same x xs)) [
-    | inl a ↦ λ h. let k : Forces x ≡ Clashes = sym (cond-true (all_same x xs) (Forces x) Wide a) ∙ h in absurd (cc)
-    | inr a ↦ λ h. let k : Wide ≡ Clashes = sym (cond-false (all_same x xs) (Forces x) Wide a) ∙ h in absurd (cc)
+    | inl a ↦ λ h. let k : Forces x ≡ Conflict = sym (cond-true (all_same x xs) (Forces x) Unresolved a) ∙ h in absurd (cc)
+    | inr a ↦ λ h. let k : Unresolved ≡ Conflict = sym (cond-false (all_same x xs) (Forces x) Unresolved a) ∙ h in absurd (cc)
   ]
 
-  turn_unsettled : (c : List Literal) → some_known known c ≡ false → turn known c ≡ turn_by (without_value known c)
-  unfolding turn
-  turn_unsettled c s = cond-false (some_known known c) Settled (turn_by (without_value known c)) s
+  status_unsatisfied : (c : List Literal) → some_known known c ≡ false → status known c ≡ status_by (without_value known c)
+  unfolding status
+  status_unsatisfied c s = cond-false (some_known known c) Satisfied (status_by (without_value known c)) s
 
-  turn_settled : (c : List Literal) → some_known known c ≡ true → turn known c ≡ Settled
-  unfolding turn
-  turn_settled c s = cond-true (some_known known c) Settled (turn_by (without_value known c)) s
+  status_satisfied : (c : List Literal) → some_known known c ≡ true → status known c ≡ Satisfied
+  unfolding status
+  status_satisfied c s = cond-true (some_known known c) Satisfied (status_by (without_value known c)) s
 
-  pub forces-is : (c : List Literal) (u : Literal) → turn known c ≡ Forces u → IsForced known c u
+  pub forces-is : (c : List Literal) (u : Literal) → status known c ≡ Forces u → IsUnit known c u
   forces-is c u h = elim (cases_Bool (some_known known c)) [
-    | inl s ↦ let k : Settled ≡ Forces u = sym (turn_settled c s) ∙ h in absurd (cc)
-    | inr s ↦ by_open c (without_value known c) refl s u (sym (turn_unsettled c s) ∙ h)
+    | inl s ↦ let k : Satisfied ≡ Forces u = sym (status_satisfied c s) ∙ h in absurd (cc)
+    | inr s ↦ by_open c (without_value known c) refl s u (sym (status_unsatisfied c s) ∙ h)
   ]
 
-  pub clashes-is : (c : List Literal) → turn known c ≡ Clashes → IsClash known c
-  clashes-is c h = elim (cases_Bool (some_known known c)) [
-    | inl s ↦ let k : Settled ≡ Clashes = sym (turn_settled c s) ∙ h in absurd (cc)
-    | inr s ↦ clash_open c (without_value known c) refl s (sym (turn_unsettled c s) ∙ h)
+  pub conflict-is : (c : List Literal) → status known c ≡ Conflict → IsConflict known c
+  conflict-is c h = elim (cases_Bool (some_known known c)) [
+    | inl s ↦ let k : Satisfied ≡ Conflict = sym (status_satisfied c s) ∙ h in absurd (cc)
+    | inr s ↦ clash_open c (without_value known c) refl s (sym (status_unsatisfied c s) ∙ h)
   ]
 
   -- the other way
-  open_clash : (c : List Literal) → IsClash known c → (rest : List Literal) → without_value known c ≡ rest → turn_by rest ≡ Clashes
+  open_clash : (c : List Literal) → IsConflict known c → (rest : List Literal) → without_value known c ≡ rest → status_by rest ≡ Conflict
   open_clash c h [] e = refl
   open_clash c h (x ∷ xs) e =
       let here : has (without_value known c) x ≡ true = subst (λ o. has o x ≡ true) (sym e) (has-first x xs) in
       let r = without_value-has c x here in
       absurd (both_ways (known (flip x)) (or_parts (known x) (known (flip x)) r.1).1 (h.all x r.0))
 
-  pub is-clashes : (c : List Literal) → IsClash known c → turn known c ≡ Clashes
-  is-clashes c h = turn_unsettled c (no_known c h.none) ∙ open_clash c h (without_value known c) refl
+  pub is-conflict : (c : List Literal) → IsConflict known c → status known c ≡ Conflict
+  is-conflict c h = status_unsatisfied c (no_known c h.none) ∙ open_clash c h (without_value known c) refl
 
-  open_forced : (c : List Literal) (u : Literal) → IsForced known c u → (rest : List Literal) → without_value known c ≡ rest → turn_by rest ≡ Forces u
+  open_forced : (c : List Literal) (u : Literal) → IsUnit known c u → (rest : List Literal) → without_value known c ≡ rest → status_by rest ≡ Forces u
   open_forced c u h [] e =
       let here : has [] u ≡ true = subst (λ o. has o u ≡ true) e (has-without_value c u h.is_in (or_from (known u) (known (flip u)) h.unknown h.flip_unknown)) in
       absurd (true≢false (sym here))
@@ -183,25 +151,25 @@ module _ (known : Known) where
       let r = without_value-has c l (subst (λ o. has o l ≡ true) (sym e) m) in
       elim (h.others l r.0) [ inl q ↦ q | inr q ↦ absurd (both_ways (known (flip l)) (or_parts (known l) (known (flip l)) r.1).1 q) ] in
       let first : u ≡ x = each x (has-first x xs) in
-      cond-true (all_same x xs) (Forces x) Wide (each-all_same x xs (λ l m. sym first ∙ each l (has-rest x l xs m))) ∙ ap Forces (sym first)
+      cond-true (all_same x xs) (Forces x) Unresolved (each-all_same x xs (λ l m. sym first ∙ each l (has-rest x l xs m))) ∙ ap Forces (sym first)
 
-  pub is-forces : (c : List Literal) (u : Literal) → IsForced known c u → turn known c ≡ Forces u
-  is-forces c u h = turn_unsettled c (no_known c h.none) ∙ open_forced c u h (without_value known c) refl
+  pub is-forces : (c : List Literal) (u : Literal) → IsUnit known c u → status known c ≡ Forces u
+  is-forces c u h = status_unsatisfied c (no_known c h.none) ∙ open_forced c u h (without_value known c) refl
 
-  -- what rests, read off the turn
-  pub settled-is : (c : List Literal) → turn known c ≡ Settled → IsSettled known c
-  settled-is c h = elim (cases_Bool (some_known known c)) [
+  -- what rests, read off the status
+  pub satisfied-is : (c : List Literal) → status known c ≡ Satisfied → IsSatisfied known c
+  satisfied-is c h = elim (cases_Bool (some_known known c)) [
     | inl s ↦ some_known-true c s
-    | inr s ↦ absurd (not_settled (without_value known c) (sym (turn_unsettled c s) ∙ h))
+    | inr s ↦ absurd (not_settled (without_value known c) (sym (status_unsatisfied c s) ∙ h))
   ] where
-    not_settled : (rest : List Literal) → turn_by rest ≡ Settled → ⊥
+    not_settled : (rest : List Literal) → status_by rest ≡ Satisfied → ⊥
     not_settled [] = λ h. cc
-    not_settled (x ∷ xs) = elim (all_same x xs) as (λ b. cond b (Forces x) Wide ≡ Settled → ⊥) [ true ↦ λ h. cc | false ↦ λ h. cc ]
+    not_settled (x ∷ xs) = elim (all_same x xs) as (λ b. cond b (Forces x) Unresolved ≡ Satisfied → ⊥) [ true ↦ λ h. cc | false ↦ λ h. cc ]
 
-  wide_open : (c rest : List Literal) → without_value known c ≡ rest → turn_by rest ≡ Wide → IsWide known c
+  wide_open : (c rest : List Literal) → without_value known c ≡ rest → status_by rest ≡ Unresolved → HasTwoNotFalse known c
   wide_open c [] e = λ h. absurd (cc)
   wide_open c (x ∷ xs) e = elim (cases_Bool (all_same x xs)) [
-    | inl a ↦ λ h. let k : Forces x ≡ Wide = sym (cond-true (all_same x xs) (Forces x) Wide a) ∙ h in absurd (cc)
+    | inl a ↦ λ h. let k : Forces x ≡ Unresolved = sym (cond-true (all_same x xs) (Forces x) Unresolved a) ∙ h in absurd (cc)
     | inr a ↦ λ h.
         let other = not_all_same x xs a in
         let first = without_value-has c x (subst (λ o. has o x ≡ true) (sym e) (has-first x xs)) in
@@ -217,29 +185,71 @@ module _ (known : Known) where
         }
   ]
 
-  pub wide-is : (c : List Literal) → turn known c ≡ Wide → IsWide known c
-  wide-is c h = elim (cases_Bool (some_known known c)) [
-    | inl s ↦ let k : Settled ≡ Wide = sym (turn_settled c s) ∙ h in absurd (cc)
-    | inr s ↦ wide_open c (without_value known c) refl (sym (turn_unsettled c s) ∙ h)
+  pub unresolved-is : (c : List Literal) → status known c ≡ Unresolved → HasTwoNotFalse known c
+  unresolved-is c h = elim (cases_Bool (some_known known c)) [
+    | inl s ↦ let k : Satisfied ≡ Unresolved = sym (status_satisfied c s) ∙ h in absurd (cc)
+    | inr s ↦ wide_open c (without_value known c) refl (sym (status_unsatisfied c s) ∙ h)
   ]
 
-  open_wide : (c rest : List Literal) → without_value known c ≡ rest → (a b : Literal) → has rest a ≡ true → has rest b ≡ true → (a ≡ b → ⊥) → turn_by rest ≡ Wide
+  open_wide : (c rest : List Literal) → without_value known c ≡ rest → (a b : Literal) → has rest a ≡ true → has rest b ≡ true → (a ≡ b → ⊥) → status_by rest ≡ Unresolved
   open_wide c [] e a b h k apart = absurd (true≢false (sym h))
   open_wide c (x ∷ xs) e a b h k apart = elim (cases_Bool (all_same x xs)) [
     | inl s ↦ absurd (apart (sym (each_is x xs s a (has-cases x a xs h)) ∙ each_is x xs s b (has-cases x b xs k)))
-    | inr s ↦ cond-false (all_same x xs) (Forces x) Wide s
+    | inr s ↦ cond-false (all_same x xs) (Forces x) Unresolved s
   ] where
     each_is : (x : Literal) (xs : List Literal) → all_same x xs ≡ true → (l : Literal) → (x ≡ l) ⊎ (has xs l ≡ true) → x ≡ l
     each_is x xs s l (inl e) = e
     each_is x xs s l (inr e) = all_same-each x xs s l e
 
-  pub rests-turn : (c : List Literal) → Rests known c → (turn known c ≡ Settled) ⊎ (turn known c ≡ Wide)
-  rests-turn c r = elim (cases_Bool (some_known known c)) [
-    | inl s ↦ inl (turn_settled c s)
+  pub rests-status : (c : List Literal) → Rests known c → (status known c ≡ Satisfied) ⊎ (status known c ≡ Unresolved)
+  rests-status c r = elim (cases_Bool (some_known known c)) [
+    | inl s ↦ inl (status_satisfied c s)
     | inr s ↦ elim r [
       | inl k ↦ absurd (both_ways (known k.lit) (some_known-false c s k.lit k.is_in) k.is_known)
-      | inr w ↦ inr (turn_unsettled c s ∙ open_wide c (without_value known c) refl w.one w.two
+      | inr w ↦ inr (status_unsatisfied c s ∙ open_wide c (without_value known c) refl w.one w.two
           (has-without_value c w.one w.one_in (or_from (known w.one) (known (flip w.one)) (some_known-false c s w.one w.one_in) w.one_unknown))
           (has-without_value c w.two w.two_in (or_from (known w.two) (known (flip w.two)) (some_known-false c s w.two w.two_in) w.two_unknown)) w.apart)
     ]
   ]
+
+  -- each answer, in words of the clause's literals
+  pub satisfied_told : (c : List Literal) (s : Status) → s ≡ status known c → (s ≡ Satisfied) ↔ IsSatisfied known c
+  satisfied_told c s e = (
+    λ h. satisfied-is c (sym e ∙ h),
+    λ h. e ∙ elim (cases_Bool (some_known known c)) [
+      | inl t ↦ status_satisfied c t
+      | inr f ↦ absurd (both_ways (known h.lit) (some_known-false c f h.lit h.is_in) h.is_known)
+    ],
+  )
+
+  none_known : (c : List Literal) → status known c ≡ Unresolved → (l : Literal) → has c l ≡ true → known l ≡ false
+  none_known c e = elim (cases_Bool (some_known known c)) [
+    | inl s ↦ let k : Satisfied ≡ Unresolved = sym (status_satisfied c s) ∙ e in absurd (cc)
+    | inr s ↦ some_known-false c s
+  ]
+
+  is-unresolved : (c : List Literal) → IsUnresolved known c → status known c ≡ Unresolved
+  is-unresolved c w = status_unsatisfied c (no_known c w.none) ∙ open_wide c (without_value known c) refl w.one w.two
+      (has-without_value c w.one w.one_in (or_from (known w.one) (known (flip w.one)) (w.none w.one w.one_in) w.one_unknown))
+      (has-without_value c w.two w.two_in (or_from (known w.two) (known (flip w.two)) (w.none w.two w.two_in) w.two_unknown)) w.apart
+
+  pub unresolved_told : (c : List Literal) (s : Status) → s ≡ status known c → (s ≡ Unresolved) ↔ IsUnresolved known c
+  unresolved_told c s e = (
+    λ h. let k : status known c ≡ Unresolved = sym e ∙ h in let w = unresolved-is c k in record {
+      none = none_known c k;
+      one = w.one;
+      two = w.two;
+      one_in = w.one_in;
+      two_in = w.two_in;
+      apart = w.apart;
+      one_unknown = w.one_unknown;
+      two_unknown = w.two_unknown;
+    },
+    λ w. e ∙ is-unresolved c w,
+  )
+
+  pub unit_told : (c : List Literal) (s : Status) → s ≡ status known c → (u : Literal) → (s ≡ Forces u) ↔ IsUnit known c u
+  unit_told c s e u = (λ h. forces-is c u (sym e ∙ h), λ h. e ∙ is-forces c u h)
+
+  pub conflict_told : (c : List Literal) (s : Status) → s ≡ status known c → (s ≡ Conflict) ↔ IsConflict known c
+  conflict_told c s e = (λ h. conflict-is c (sym e ∙ h), λ h. e ∙ is-conflict c h)
