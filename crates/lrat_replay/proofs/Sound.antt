@@ -25,7 +25,7 @@ Contains-one x y (suc k, h, e) = absurd (omega arith)
 pub Contains-head : {X : Type 0} (x : X) (xs : List X) → Contains (x ∷ xs) x
 Contains-head x xs = (0, omega arith, refl)
 
-Contains-cases : {X : Type 0} (x : X) (xs : List X) (y : X) → Contains (x ∷ xs) y → (x ≡ y) ⊎ Contains xs y
+pub Contains-cases : {X : Type 0} (x : X) (xs : List X) (y : X) → Contains (x ∷ xs) y → (x ≡ y) ⊎ Contains xs y
 Contains-cases x xs y m = elim (Contains-append_cases (x ∷ []) xs y m) [
   | inl e ↦ inl (Contains-one x y e)
   | inr e ↦ inr e

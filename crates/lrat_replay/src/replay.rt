@@ -1,10 +1,10 @@
 //! Replay of steps, and what it shows of a formula.
-ghost use Rattle.std.specs.Prelude.{◌≡◌, ℕ, ◌+◌, ◌*◌, ◌<◌, ◌≤◌, Bool, true, false, OnOk, OnErr, IfOk, IfErr, None, Some, is_ok};
+ghost use Rattle.std.specs.Prelude.{◌≡◌, ℕ, ◌+◌, ◌*◌, ◌<◌, ◌≤◌, Bool, true, false, OnOk, OnErr, IfOk, IfErr, None, Some, is_ok, IsOk, IsErr, IsTrue, ◌↔◌};
 ghost use Rattle.clause_core.specs.Literal.{clause_is_true};
 ghost use Rattle.clause_core.specs.Formula.{IsOver, Satisfies, HasNoSolution};
 ghost use Rattle.lrat_replay.specs.Marks.{room};
 ghost use Rattle.lrat_replay.specs.Book.{Book, start, last_id, addition_fault, after_addition, deletion_fault, after_deletion, some_empty};
-ghost use Rattle.lrat_replay.specs.Laws.{IsRefuted, IsReached};
+ghost use Rattle.lrat_replay.specs.Laws.{IsRefuted, IsReached, AddsEmpty};
 ghost use Rattle.lrat_replay.specs.Replay.{IsFault};
 
 use crate::deny::{deny, is_above};
@@ -131,6 +131,7 @@ impl Replay {
 
     /// Whether an empty clause was accepted. The replay stands where accepted lines led it.
     pub fn reached(&self) -> bool
+        ensures exactly { IsTrue result ↔ AddsEmpty self.now }
         ensures value { result ≡ some_empty self.now.steps }
         ensures history { IsReached self.now }
     {
@@ -167,6 +168,8 @@ impl Replay {
 
     /// The formula as a refuted one, where an empty clause was accepted; else the replay as it was.
     pub fn refutation(self) -> Result<Refutation, Replay>
+        ensures ok_exactly { IsOk result ↔ AddsEmpty self }
+        ensures err_exactly { IsErr result ↔ ¬ AddsEmpty self }
         ensures reached { is_ok result ≡ some_empty self.steps }
         ensures ok { IfOk result (λ refutation. refutation ≡ self.formula) }
         ensures err { IfErr result (λ replay. replay ≡ self) }
