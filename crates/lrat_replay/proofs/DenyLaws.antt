@@ -40,7 +40,7 @@ module _ (clause : List Literal) (i : ℕ) (x : Literal) (h : i < length clause)
       sym (ap (some_above vars) (drop-cons clause i x h) ∙ (λ j. nat_lt vars (sym e j).var || some_above vars (drop (sym (add-one i) j) clause)) ∙ ap (λ t. t || some_above vars (drop (i + 1) clause)) below)
 
 -- a literal and one more clause literal
-has-push : (c : List Literal) (x l : Literal) → has (c ++ x ∷ []) l ≡ (has c l || same x l)
+pub has-push : (c : List Literal) (x l : Literal) → has (c ++ x ∷ []) l ≡ (has c l || same x l)
 has-push [] x l = shape (same x l) where
   shape : (b : Bool) → (b || false) ≡ (false || b)
   shape b = grind arith

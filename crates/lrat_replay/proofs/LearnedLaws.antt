@@ -1,14 +1,11 @@
 -- Steps that come one after the other.
 use Rattle.std.proofs.lemmas.List.Sums.{sum_by-append}
-use Rattle.std.proofs.Common.{◌≡◌, ℕ, suc, ◌+◌, ◌≤◌, Bool, true, false, not, cond, List, [], ◌∷◌, ◌++◌, length, refl, ap, sym, ◌∙◌, subst, arith, inl, inr, append_assoc}
-use Rattle.std.specs.Prelude.{count_by}
-use Rattle.std.specs.FinSet as set
-use Rattle.clause_core.specs.Literal.{Literal}
+use Rattle.std.proofs.Common.{◌≡◌, ℕ, suc, ◌+◌, not, cond, List, [], ◌∷◌, ◌++◌, length, refl, ap, sym, ◌∙◌, subst, append_assoc}
 use Rattle.clause_core.specs.Formula.{Formula}
 use Rattle.lrat_replay.specs.declared.line.Step.{Step}
-use Rattle.lrat_replay.specs.Book.{Book, Numbered, addition_fault, after_addition, last_id, last_of, is_empty, start}
-use Rattle.lrat_replay.specs.New.{IsNew, IsSubset, AreAccepted, AreNew, AllTellPropagation, Spent}
-use Rattle.lrat_replay.specs.Learned.{after_steps, AreFresh, count_full, Learns, EndsEmpty, AreWrittenNew, SpentWritten, without_hints}
+use Rattle.lrat_replay.specs.Book.{Book, Numbered, after_addition, is_empty, start}
+use Rattle.lrat_replay.specs.New.{AreAccepted, AreNew, AllTellPropagation, Spent}
+use Rattle.lrat_replay.specs.Learned.{after_steps, AreFresh, count_full, Learns, AreWrittenNew, SpentWritten, without_hints}
 
 pub AllTellPropagation-append : (book : Book) (a b : List Numbered) → AllTellPropagation book a → AllTellPropagation (after_steps book a) b → AllTellPropagation book (a ++ b)
 AllTellPropagation-append book [] b h k = k

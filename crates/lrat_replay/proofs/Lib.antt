@@ -14,3 +14,4 @@ pub mod ReadLaws
 pub mod StepLaws
 pub mod TallyLaws
 pub mod LearnedLaws
+pub mod SubsetLaws

@@ -13,3 +13,4 @@ pub mod StepRead
 pub mod Ledger
 pub mod Learned
 pub mod Together
+pub mod Subset

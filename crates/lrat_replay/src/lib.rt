@@ -17,6 +17,7 @@ pub mod replay;
 pub mod status;
 pub mod step_text;
 mod store;
+mod subset;
 pub mod tally;
 #[cfg(test)]
 mod tests;

@@ -5,6 +5,7 @@ ghost use Rattle.clause_core.specs.Formula.{IsOver, Satisfies, HasNoSolution};
 ghost use Rattle.lrat_replay.specs.Marks.{room};
 ghost use Rattle.lrat_replay.specs.Book.{Book, start, last_id, addition_fault, after_addition, deletion_fault, after_deletion, some_empty};
 ghost use Rattle.lrat_replay.specs.Laws.{IsRefuted, IsReached, AddsEmpty};
+ghost use Rattle.lrat_replay.specs.New.{IsNew};
 ghost use Rattle.lrat_replay.specs.Replay.{IsFault};
 
 use crate::deny::{deny, is_above};
@@ -12,6 +13,7 @@ use crate::fault::StepFault;
 use crate::hints::follow;
 use crate::marks::Marks;
 use crate::store::Store;
+use crate::subset::mark_all;
 use clause_core::formula::Formula;
 use clause_core::lit::Lit;
 use std::alloc::Global;
@@ -154,6 +156,17 @@ impl Replay {
             self.reached = true;
         }
         Ok(())
+    }
+
+    /// Whether a clause over the formula's variables is new: it is not empty, and no clause of the formula or of a step
+    /// so far, deleted ones too, is a subset of it. The replay stays as it was.
+    pub fn is_new(&mut self, clause: &[Lit]) -> bool
+        requires { IsOver self.old.formula.vars clause.now }
+        ensures is_new { IsTrue result ↔ IsNew self.old clause.now }
+        ensures kept { self.new ≡ self.old }
+    {
+        mark_all(&mut self.marks, clause);
+        !clause.is_empty() && !self.store.has_within(&self.marks)
     }
 
     /// Deletes clauses by their identifiers, one after the other. After a refusal the replay is as it was.

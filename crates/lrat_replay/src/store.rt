@@ -1,12 +1,16 @@
 //! The formula and the steps, with what was deleted.
-ghost use Rattle.std.specs.Prelude.{◌≡◌, ℕ, ◌+◌, ◌<◌, ◌≤◌, ◌^◌, [], length, OnOk, OnErr, IfOk, IfSome, MatchOption, None, Some, slice_get, slice_index, slice_index_or, ◌++◌, ◌-◌, All, replicate, true, false, ◌∷◌, IfErr, ℤ};
+ghost use Rattle.std.specs.Prelude.{◌≡◌, ℕ, ◌+◌, ◌<◌, ◌≤◌, ◌^◌, [], length, OnOk, OnErr, IfOk, IfSome, MatchOption, None, Some, slice_get, slice_index, slice_index_or, ◌++◌, ◌-◌, All, replicate, true, false, ◌∷◌, IfErr, ℤ, IsTrue, ◌↔◌, ◌*◌};
 ghost use Rattle.std.specs.FinSet as set;
 ghost use Rattle.clause_core.specs.Formula.{IsOver};
-ghost use Rattle.lrat_replay.specs.Book.{Book, start, last_id, live, is_live, without, after_addition, deletion_fault, after_deletion};
-ghost use Rattle.lrat_replay.specs.Store.{counted};
+ghost use Rattle.lrat_replay.specs.Book.{Book, all_of, start, last_id, live, is_live, without, after_addition, deletion_fault, after_deletion};
+ghost use Rattle.lrat_replay.specs.Store.{counted, clauses_of};
+ghost use Rattle.lrat_replay.specs.Marks.{known_of, room};
+ghost use Rattle.lrat_replay.specs.Subset.{SomeAreKnown};
 
 use crate::fault::StepFault;
+use crate::marks::Marks;
 use crate::place::place_of;
+use crate::subset::{some_of_formula, some_of_steps};
 use clause_core::clauses::Clauses;
 use clause_core::formula::Formula;
 use clause_core::lit::Lit;
@@ -126,6 +130,15 @@ impl Store {
             return None;
         }
         Some(clause_at(&self.formula, &self.steps, place))
+    }
+
+    /// Whether some clause, a deleted one too, has only marked literals.
+    pub fn has_within(&self, marks: &Marks) -> bool
+        requires { 2 * self.now.formula.vars + 2 ≤ room marks.now }
+        ensures { IsTrue result ↔ SomeAreKnown (known_of marks.now) (clauses_of (all_of self.now)) }
+    {
+        some_of_formula(marks, &self.formula)
+            || some_of_steps(marks, self.formula.vars(), &self.steps)
     }
 
     /// Adds a clause under an identifier above the largest one so far.

@@ -1,4 +1,3 @@
-use Rattle.std.proofs.Common.{sym}
 use Rattle.lrat_replay.specs.Marks.{known_of}
 use Rattle.lrat_replay.proofs.StatusLaws.{satisfied_told, unresolved_told, unit_told, conflict_told}
 use Rattle.lrat_replay.proofs.status.status_of.Goals as goal

@@ -1,6 +1,5 @@
 use Rattle.std.proofs.Common.{◌≡◌, ◌↔◌, true, subst}
 use Rattle.lrat_replay.specs.Laws.{AddsEmpty}
-use Rattle.lrat_replay.specs.Book.{Book}
 use Rattle.lrat_replay.proofs.ReplayLaws.{adds_exactly}
 use Rattle.lrat_replay.proofs.replay.Replay.reached.Goals as goal
 

@@ -1,6 +1,5 @@
 use Rattle.std.proofs.Common.{◌≡◌, ◌↔◌, ◌∙◌, true, false, not, ap, sym, subst}
 use Rattle.std.proofs.lemmas.Bool.{not-false, not-true}
-use Rattle.lrat_replay.specs.Book.{Book}
 use Rattle.lrat_replay.specs.Laws.{IsRefuted, AddsEmpty}
 use Rattle.lrat_replay.proofs.ReplayLaws.{refuted, adds_exactly, adds_not}
 use Rattle.lrat_replay.proofs.replay.Replay.refutation.Goals as goal
