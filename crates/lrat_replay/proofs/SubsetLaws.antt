@@ -43,10 +43,13 @@ pub known_left : (known : Known) (a b : List (List Literal)) (x : Bool) → x �
 known_left known a b x e p = (λ h. let s = p.0 h in record { clause = s.clause; among = Contains-append_left a b s.clause s.among; known_all = s.known_all }, λ s. e)
 
 pub known_right : (known : Known) (a b : List (List Literal)) (x y : Bool) → x ≡ false → (x ≡ true) ↔ SomeAreKnown known a → (y ≡ true) ↔ SomeAreKnown known b → (y ≡ true) ↔ SomeAreKnown known (a ++ b)
-known_right known a b x y e p q = (λ h. let s = q.0 h in record { clause = s.clause; among = Contains-append_right a b s.clause s.among; known_all = s.known_all }, λ s. elim (Contains-append_cases a b s.clause s.among) [
-  | inl m ↦ absurd (both_ways x e (p.1 (record { clause = s.clause; among = m; known_all = s.known_all })))
-  | inr m ↦ q.1 (record { clause = s.clause; among = m; known_all = s.known_all })
-])
+known_right known a b x y e p q = (
+  λ h. let s = q.0 h in record { clause = s.clause; among = Contains-append_right a b s.clause s.among; known_all = s.known_all },
+  λ s. elim (Contains-append_cases a b s.clause s.among) [
+    | inl m ↦ absurd (both_ways x e (p.1 (record { clause = s.clause; among = m; known_all = s.known_all })))
+    | inr m ↦ q.1 (record { clause = s.clause; among = m; known_all = s.known_all })
+  ],
+)
 
 -- clauses with their identifiers
 record At (entries : List Numbered) (clause : List Literal) : Type 0 where
@@ -70,14 +73,17 @@ clause_at (x ∷ entries) step m = elim (Contains-cases x entries step m) [
 
 -- the clause is new exactly where no clause has only its literals
 pub new_exactly : (book : Book) (clause : List Literal) (known : Known) (b : Bool) → (clause ≡ [] → ⊥) → known ≡ has clause → (b ≡ true) ↔ SomeAreKnown known (clauses_of (all_of book)) → (not b ≡ true) ↔ IsNew book clause
-new_exactly book clause known b some e p = (λ h. record {
-  some = some;
-  none_within = λ step m sub. both_ways b (flipped b h) (p.1 (record { clause = step.clause; among = clause_at (all_of book) step m; known_all = λ l k. ap (λ f. f l) e ∙ sub l k }));
-}, λ n. elim (cases_Bool b) [
-  | inl t ↦ absurd (let s = p.0 t in let r = entry_at (all_of book) s.clause s.among in
-      n.none_within r.step r.among (λ l k. ap (λ f. f l) (sym e) ∙ s.known_all l (ap (λ c. has c l) (sym r.is) ∙ k)))
-  | inr f ↦ ap not f
-]) where
+new_exactly book clause known b some e p = (
+  λ h. record {
+    some = some;
+    none_within = λ step m sub. both_ways b (flipped b h) (p.1 (record { clause = step.clause; among = clause_at (all_of book) step m; known_all = λ l k. ap (λ f. f l) e ∙ sub l k }));
+  },
+  λ n. elim (cases_Bool b) [
+    | inl t ↦ absurd (let s = p.0 t in let r = entry_at (all_of book) s.clause s.among in
+        n.none_within r.step r.among (λ l k. ap (λ f. f l) (sym e) ∙ s.known_all l (ap (λ c. has c l) (sym r.is) ∙ k)))
+    | inr f ↦ ap not f
+  ],
+) where
   flipped : (b : Bool) → not b ≡ true → b ≡ false
   flipped true h = absurd (true≢false (sym h))
   flipped false h = refl
