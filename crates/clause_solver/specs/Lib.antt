@@ -1,0 +1,4 @@
+pub mod Trail
+pub mod Kept
+pub mod Plain
+pub mod Analysis

@@ -1,0 +1,5 @@
+//! Search for a valuation, with each learned clause as a step of a ledger.
+#![tactic(auto)]
+
+pub mod trail;
+pub mod value;
