@@ -1,2 +1,3 @@
 pub mod Reduce
 pub mod TrailPlaces
+pub mod Propagation

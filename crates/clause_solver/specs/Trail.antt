@@ -1,5 +1,5 @@
 -- Values in the order in which they came, the newest first.
-use Rattle.std.specs.Prelude.{◌≡◌, ℕ, ◌+◌, ◌-◌, ◌≤◌, drop, Bool, true, false, cond, ◌||◌, List, [], ◌∷◌, length, None, Some}
+use Rattle.std.specs.Prelude.{◌≡◌, ℕ, ◌+◌, ◌-◌, ◌*◌, ◌≤◌, drop, Bool, true, false, cond, ◌||◌, List, [], ◌∷◌, length, None, Some}
 use Rattle.std.proofs.Common.{zero, suc}
 use Rattle.clause_core.specs.Literal.{Literal, flip, same, literal_of}
 use Rattle.lrat_replay.specs.Status.{Known}
@@ -50,3 +50,7 @@ free known (suc n) = cond (known (literal_of n)) 0 1 + free known n
 pub record Track : Type 0 where
   pub vars : ℕ
   pub values : List Value
+
+-- how many literals of the variables are not known
+abbrev pub unassigned : Track → ℕ
+unassigned track = free (known_by track.values) (2 * track.vars + 2)

@@ -1,5 +1,6 @@
 //! Search for a valuation, with each learned clause as a step of a ledger.
 #![tactic(auto)]
 
+pub mod propagate;
 pub mod trail;
 pub mod value;
