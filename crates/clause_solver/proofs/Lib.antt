@@ -1,3 +1,4 @@
 pub mod Reduce
 pub mod TrailPlaces
 pub mod Propagation
+pub mod Levels
