@@ -2,3 +2,8 @@ pub mod Reduce
 pub mod TrailPlaces
 pub mod Propagation
 pub mod Levels
+pub mod Marking
+pub mod AnalyseLaws
+pub mod Asserting
+pub mod SomeSeen
+pub mod Anchor

@@ -1,6 +1,7 @@
 //! Search for a valuation, with each learned clause as a step of a ledger.
 #![tactic(auto)]
 
+pub mod analyse;
 pub mod level;
 pub mod propagate;
 pub mod trail;
