@@ -2,7 +2,8 @@
 use Rattle.std.proofs.Common.{◌≡◌, ℕ, zero, suc, ◌+◌, ◌-◌, ◌<◌, ◌≤◌, Bool, true, false, ◌||◌, List, [], ◌∷◌, ◌++◌, length, drop, map, reverse, ◌⊎◌, inl, inr, refl, ap, sym, ◌∙◌, subst, ℤ, pos, Option, None, Some, arith, add-one}
 use Rattle.std.specs.Prelude.{slice_get, All}
 use Rattle.std.proofs.lemmas.List.{reverse-append}
-use Rattle.std.proofs.lemmas.List.Elements.{All-push}
+use Rattle.std.specs.List.{AllByRecursion}
+use Rattle.std.proofs.lemmas.List.Elements.{All-push, All-from_recursion, recursion_from_All}
 use Rattle.clause_solver.proofs.Levels.{oldest-all, oldest-none}
 use Rattle.std.proofs.lemmas.Bool.{or_cases, or_left, or_right, both_ways, true≢false}
 use Rattle.clause_core.specs.Literal.{Literal, flip, same, has, number}
@@ -113,3 +114,13 @@ pub numbers_more : (clauses : List (List Literal)) (ids ids' : List ℕ) (id pla
 numbers_more clauses ids ids' id place clause h e at found =
     let inside = (get_inside clauses place clause found).0 in
     subst (AreNumbers clauses) (sym e) (All-push (λ (i : ℕ). (0 < i) × (i ≤ length clauses)) ids id h (omega arith, omega arith))
+
+pub numbers_reverse : (clauses : List (List Literal)) (ids : List ℕ) → AreNumbers clauses ids → AreNumbers clauses (reverse ids)
+numbers_reverse clauses ids h = All-from_recursion (λ (i : ℕ). (0 < i) × (i ≤ length clauses)) (reverse ids) (by ids (recursion_from_All (λ (i : ℕ). (0 < i) × (i ≤ length clauses)) ids h)) where
+  append : (a b : List ℕ) → AllByRecursion (λ (i : ℕ). (0 < i) × (i ≤ length clauses)) a → AllByRecursion (λ (i : ℕ). (0 < i) × (i ≤ length clauses)) b → AllByRecursion (λ (i : ℕ). (0 < i) × (i ≤ length clauses)) (a ++ b)
+  append [] b h k = k
+  append (x ∷ a) b h k = (h.0, append a b h.1 k)
+
+  by : (ids : List ℕ) → AllByRecursion (λ (i : ℕ). (0 < i) × (i ≤ length clauses)) ids → AllByRecursion (λ (i : ℕ). (0 < i) × (i ≤ length clauses)) (reverse ids)
+  by [] h = tt
+  by (x ∷ ids) h = subst (AllByRecursion (λ (i : ℕ). (0 < i) × (i ≤ length clauses))) (sym (reverse-append (x ∷ []) ids)) (append (reverse ids) (x ∷ []) (by ids h.1) (h.0, tt))

@@ -84,7 +84,7 @@ decision_before (x ∷ older) place v h e d = elim (last place (length older) (o
       let long = ap length old in omega arith
   | inr below ↦
       let inner : oldest (place + 1) older ≡ v ∷ oldest place older =
-          sym (skip (place + 1) (omega arith)) ∙ e ∙ ap (λ r. v ∷ r) (skip place (omega arith)) in
+      sym (skip (place + 1) (omega arith)) ∙ e ∙ ap (λ r. v ∷ r) (skip place (omega arith)) in
       let r = decision_before older place v below inner d in by (x.reason) r
 ] where
   last : (a b : ℕ) → a < b + 1 → (a ≡ b) ⊎ (a < b)

@@ -7,3 +7,4 @@ pub mod AnalyseLaws
 pub mod Asserting
 pub mod SomeSeen
 pub mod Anchor
+pub mod AnalysisSteps

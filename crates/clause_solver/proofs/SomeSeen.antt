@@ -71,8 +71,10 @@ if_resolves before older seen v h = by (v.reason) refl where
   by None e = tt
   by (Some id) e = record { reason = e; place = h }
 
-pub if_keeps : (before : Known) (older : List Value) (seen : Known) (v : Value) → (v.reason ≡ None → MayKeep before older seen v.lit) → IfNone v.reason (MayKeep before older seen v.lit)
-if_keeps before older seen v h = by (v.reason) refl where
-  by : (o : Option ℕ) → v.reason ≡ o → IfNone o (MayKeep before older seen v.lit)
-  by None e = h e
-  by (Some id) e = tt
+pub some_weaker : {P Q : ℕ → Type 0} (o : Option ℕ) → IfSome o P → ((id : ℕ) → P id → Q id) → IfSome o Q
+some_weaker None h f = tt
+some_weaker (Some id) h f = f id h
+
+pub none_weaker : {P : Type 0} (o : Option ℕ) → (o ≡ None → P) → IfNone o P
+none_weaker None h = h refl
+none_weaker (Some id) h = tt

@@ -36,7 +36,6 @@ pub record IsFound (before : Known) (now : List Value) (seen : Known) (clause : 
 abbrev pub IsSought : Known → List Value → Known → List Literal → Type 0
 IsSought before now seen clause = ((clause ≡ []) × IsSomeSeen before now seen) ⊎ IsFound before now seen clause
 
-
 -- a value is resolved on its reason: it is older than the last decision, or another value of the last level was seen
 pub record MayResolve (before : Known) (older : List Value) (seen : Known) (value : Value) (id : ℕ) : Type 0 where
   pub reason : value.reason ≡ Some id

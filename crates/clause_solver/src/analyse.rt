@@ -6,12 +6,12 @@ ghost use Rattle.lrat_replay.specs.Hints.{FitsIn};
 ghost use Rattle.lrat_replay.specs.Marks.{known_of, room};
 ghost use Rattle.lrat_replay.specs.Book.{run, denied, Accepted};
 ghost use Rattle.clause_solver.specs.Trail.{known_by, IsFresh, oldest, before_last, has_decision};
+ghost use Rattle.clause_solver.specs.declared.value.Value.{Value};
 ghost use Rattle.clause_solver.specs.Plain.{HaveReasons, IsConflictAt, AllRest, at_of};
 ghost use Rattle.clause_solver.specs.Analysis.{IsSomeSeen, IsNoneSeen, MayResolve, MayKeep, IsAsserting, IsAnchor};
 
 use crate::level::next_decision;
 use crate::trail::Trail;
-use crate::value::Value;
 use clause_core::clauses::Clauses;
 use clause_core::lit::Lit;
 use lrat_replay::marks::Marks;
@@ -54,26 +54,24 @@ fn some_seen(trail: &Trail, seen: &Marks, from: usize, to: usize) -> bool
     false
 }
 
-/// The reason on which a value that was seen is resolved, if it is not kept: at level zero, where `zero` values
-/// stand, always; at the last level, which begins at `start`, while another value of it was seen.
+/// The reason on which the value at a place, which was seen, is resolved, if it is not kept: at level zero, where
+/// `zero` values stand, always; at the last level, which begins at `start`, while another value of it was seen.
 fn reason_to_resolve(
     trail: &Trail,
     seen: &Marks,
     zero: usize,
     start: usize,
     place: usize,
-    value: Value,
 ) -> Option<u32>
     requires room { 2 * trail.now.vars + 2 ≤ room seen.now }
     requires order { zero ≤ start }
     requires last { start < length trail.now.values }
     requires newest { before_last trail.now.values ≡ oldest start trail.now.values }
     requires within { place < length trail.now.values }
-    requires at { oldest (place + 1) trail.now.values ≡ value ∷ oldest place trail.now.values }
-    requires fresh { IsFresh (known_by (oldest place trail.now.values)) value.lit }
-    ensures resolves { IfSome result (MayResolve (known_by (oldest start trail.now.values)) (oldest place trail.now.values) (known_of seen.now) value) }
-    ensures keeps { IfNone result (MayKeep (known_by (oldest start trail.now.values)) (oldest place trail.now.values) (known_of seen.now) value.lit) }
+    ensures resolves { IfSome result (λ id. (value : Value) → oldest (place + 1) trail.now.values ≡ value ∷ oldest place trail.now.values → MayResolve (known_by (oldest start trail.now.values)) (oldest place trail.now.values) (known_of seen.now) value id) }
+    ensures keeps { IfNone result ((value : Value) → oldest (place + 1) trail.now.values ≡ value ∷ oldest place trail.now.values → MayKeep (known_by (oldest start trail.now.values)) (oldest place trail.now.values) (known_of seen.now) value.lit) }
 {
+    let value = trail.value(place);
     if place < zero {
         return value.reason;
     }
@@ -84,4 +82,109 @@ fn reason_to_resolve(
         return value.reason;
     }
     None
+}
+
+/// How many of the oldest values stay at least, where one more literal is kept: up to the second one that is kept.
+fn values_after(kept: usize, after: usize, place: usize) -> usize
+    requires { place + 1 < 18446744073709551616 }
+    ensures { ((kept ≡ 1) × (result ≡ place + 1)) ⊎ ((kept ≡ 1 → ⊥) × (result ≡ after)) }
+{
+    if kept == 1 { place + 1 } else { after }
+}
+
+/// The clause at the first point at which one literal of the last level is left. The last level begins at `start`;
+/// values of level zero are resolved on their reasons, so these are among the hints.
+pub fn analyse(
+    alloc: Global,
+    trail: &Trail,
+    clauses: &Clauses,
+    seen: &mut Marks,
+    conflict: usize,
+    start: usize,
+) -> Result<Learned, NoMemory>
+    requires over { All (IsOver trail.now.vars) clauses.now }
+    requires room { 2 * trail.now.vars + 2 ≤ room seen.old }
+    requires few { length clauses.now < 2147483647 }
+    requires reasons { HaveReasons clauses.now trail.now.values }
+    requires conflict { IsConflictAt clauses.now (known_by trail.now.values) conflict }
+    requires last { start < length trail.now.values }
+    requires newest { before_last trail.now.values ≡ oldest start trail.now.values }
+    requires decided { has_decision trail.now.values ≡ true }
+    ensures accepted { IfOk result (λ learned. run (at_of clauses.now) (denied learned.clause.items) (map pos learned.hints.items) ≡ Accepted) }
+    ensures numbers { IfOk result (λ learned. All (λ id. (0 < id) × (id ≤ length clauses.now)) learned.hints.items) }
+    ensures is_false { IfOk result (λ learned. (l : Literal) → has learned.clause.items l ≡ true → known_by trail.now.values (flip l) ≡ true) }
+    ensures asserts { IfOk result (λ learned. IsAsserting (known_by (oldest start trail.now.values)) learned.clause.items) }
+    ensures anchor { IfOk result (λ learned. IsAnchor trail.now.values learned.clause.items learned.after) }
+    ensures room { room seen.new ≡ room seen.old }
+{
+    let zero = next_decision(trail, 0, start);
+    seen.clear();
+    mark(seen, clauses.clause(conflict));
+    let mut clause = Vec::new(alloc);
+    let mut hints = Vec::new(alloc);
+    hints.push(conflict as u32 + 1)?;
+    let mut after = 0;
+    let mut place = trail.len();
+    while place > 0 {
+        place -= 1;
+        let value = trail.value(place);
+        if seen.has(value.lit) {
+            match reason_to_resolve(trail, seen, zero, start, place) {
+                Some(id) => {
+                    mark(seen, clauses.clause(id as usize - 1));
+                    hints.push(id)?;
+                }
+                None => {
+                    after = values_after(clause.len(), after, place);
+                    clause.push(value.lit.flip())?;
+                }
+            }
+        }
+    }
+    hints.reverse();
+    Ok(Learned {
+        clause,
+        hints,
+        after,
+    })
+}
+
+/// The hints by which replay accepts the empty clause, where nothing was decided.
+pub fn refute(
+    alloc: Global,
+    trail: &Trail,
+    clauses: &Clauses,
+    seen: &mut Marks,
+    conflict: usize,
+) -> Result<Vec<u32>, NoMemory>
+    requires over { All (IsOver trail.now.vars) clauses.now }
+    requires room { 2 * trail.now.vars + 2 ≤ room seen.old }
+    requires few { length clauses.now < 2147483647 }
+    requires reasons { HaveReasons clauses.now trail.now.values }
+    requires conflict { IsConflictAt clauses.now (known_by trail.now.values) conflict }
+    requires decided { has_decision trail.now.values ≡ false }
+    ensures accepted { IfOk result (λ hints. run (at_of clauses.now) (denied []) (map pos hints.items) ≡ Accepted) }
+    ensures numbers { IfOk result (λ hints. All (λ id. (0 < id) × (id ≤ length clauses.now)) hints.items) }
+    ensures room { room seen.new ≡ room seen.old }
+{
+    seen.clear();
+    mark(seen, clauses.clause(conflict));
+    let mut hints = Vec::new(alloc);
+    hints.push(conflict as u32 + 1)?;
+    let mut place = trail.len();
+    while place > 0 {
+        place -= 1;
+        let value = trail.value(place);
+        match value.reason {
+            None => {}
+            Some(id) => {
+                if seen.has(value.lit) {
+                    mark(seen, clauses.clause(id as usize - 1));
+                    hints.push(id)?;
+                }
+            }
+        }
+    }
+    hints.reverse();
+    Ok(hints)
 }

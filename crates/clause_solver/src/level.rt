@@ -4,16 +4,17 @@ ghost use Rattle.clause_solver.specs.Trail.{oldest, before_last, has_decision};
 
 use crate::trail::Trail;
 
-/// The first place from this one on at which a value was decided, or where the values end.
-pub fn next_decision(trail: &Trail, from: usize) -> usize
-    requires { from ≤ length trail.now.values }
+/// The first place from one on and before another at which a value was decided, or that other place.
+pub fn next_decision(trail: &Trail, from: usize, end: usize) -> usize
+    requires order { from ≤ end }
+    requires inside { end ≤ length trail.now.values }
     ensures from { from ≤ result }
-    ensures within { result ≤ length trail.now.values }
+    ensures within { result ≤ end }
     ensures before { before_last (oldest result trail.now.values) ≡ before_last (oldest from trail.now.values) }
     ensures decided { has_decision (oldest result trail.now.values) ≡ has_decision (oldest from trail.now.values) }
 {
     let mut place = from;
-    while place < trail.len() && trail.value(place).reason.is_some() {
+    while place < end && trail.value(place).reason.is_some() {
         place += 1;
     }
     place
