@@ -35,7 +35,7 @@ fresh_consistent (e ∷ older) f l a b = elim (value_cases e older l a) [
   ]
 ]
 
-reasons-drop : (clauses : List (List Literal)) (values : List Value) (n : ℕ) → HaveReasons clauses values → HaveReasons clauses (drop n values)
+pub reasons-drop : (clauses : List (List Literal)) (values : List Value) (n : ℕ) → HaveReasons clauses values → HaveReasons clauses (drop n values)
 reasons-drop clauses values zero h = h
 reasons-drop clauses [] (suc n) h = tt
 reasons-drop clauses (e ∷ older) (suc n) h = reasons-drop clauses older n h.1

@@ -99,3 +99,16 @@ decision_before (x ∷ older) place v h e d = elim (last place (length older) (o
   by : (o : Option ℕ) → place ≤ length (before_last older) → place ≤ length (elim o as (λ _. List Value) [ None ↦ older | Some id ↦ before_last older ])
   by None r = omega arith
   by (Some id) r = r
+
+-- one more of the oldest values
+pub oldest-step : (values : List Value) (place : ℕ) → place < length values → (v : Value) × (oldest (place + 1) values ≡ v ∷ oldest place values)
+oldest-step [] place h = absurd (omega arith)
+oldest-step (x ∷ older) place h = elim (last place (length older) (omega arith)) [
+  | inl here ↦ (x, oldest-all (x ∷ older) (place + 1) (omega arith) ∙ ap (λ r. x ∷ r) (sym (skip place (omega arith) ∙ oldest-all older place here)))
+  | inr below ↦ let r = oldest-step older place below in (r.0, skip (place + 1) (omega arith) ∙ r.1 ∙ ap (λ s. r.0 ∷ s) (sym (skip place (omega arith))))
+] where
+  last : (a b : ℕ) → a < b + 1 → (a ≡ b) ⊎ (a < b)
+  last a b k = grind arith
+
+  skip : (n : ℕ) → n ≤ length older → oldest n (x ∷ older) ≡ oldest n older
+  skip n k = let e : length (x ∷ older) - n ≡ suc (length older - n) = omega arith in ap (λ m. drop m (x ∷ older)) e

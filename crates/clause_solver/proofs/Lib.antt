@@ -5,6 +5,9 @@ pub mod Levels
 pub mod Marking
 pub mod AnalyseLaws
 pub mod Asserting
+pub mod CopyLaws
+pub mod Closed
+pub mod Backjump
 pub mod SomeSeen
 pub mod Anchor
 pub mod AnalysisSteps

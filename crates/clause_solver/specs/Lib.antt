@@ -2,3 +2,4 @@ pub mod Trail
 pub mod Kept
 pub mod Plain
 pub mod Analysis
+pub mod Copy

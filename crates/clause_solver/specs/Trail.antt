@@ -1,5 +1,5 @@
 -- Values in the order in which they came, the newest first.
-use Rattle.std.specs.Prelude.{◌≡◌, ℕ, ◌+◌, ◌-◌, ◌*◌, ◌≤◌, drop, Bool, true, false, cond, ◌||◌, List, [], ◌∷◌, length, None, Some}
+use Rattle.std.specs.Prelude.{◌≡◌, ◌⊎◌, ℕ, ◌+◌, ◌-◌, ◌*◌, ◌≤◌, drop, Bool, true, false, cond, ◌||◌, List, [], ◌∷◌, length, None, Some}
 use Rattle.std.proofs.Common.{zero, suc}
 use Rattle.clause_core.specs.Literal.{Literal, flip, same, literal_of}
 use Rattle.lrat_replay.specs.Status.{Known}
@@ -54,3 +54,7 @@ pub record Track : Type 0 where
 -- how many literals of the variables are not known
 abbrev pub unassigned : Track → ℕ
 unassigned track = free (known_by track.values) (2 * track.vars + 2)
+
+-- each variable has a value
+abbrev pub AreValued : ℕ → Known → Type 0
+AreValued vars known = (l : Literal) → IsVariableOf vars l → (known l ≡ true) ⊎ (known (flip l) ≡ true)

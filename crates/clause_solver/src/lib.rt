@@ -2,6 +2,8 @@
 #![tactic(auto)]
 
 pub mod analyse;
+pub mod decide;
+pub mod learn;
 pub mod level;
 pub mod propagate;
 pub mod trail;

@@ -51,7 +51,8 @@ impl Trail {
 
     /// How many variables there are.
     pub fn vars(&self) -> u32
-        ensures { result ≡ self.now.vars }
+        ensures value { result ≡ self.now.vars }
+        ensures within { result < 2147483648 }
     {
         self.vars
     }

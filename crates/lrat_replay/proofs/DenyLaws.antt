@@ -71,7 +71,7 @@ some_flip-true c (x ∷ ls) l h k = elim (has-cases x l ls h) [
   | inr e ↦ or_right (has c (flip x)) (some_flip c ls) (some_flip-true c ls l e k)
 ]
 
-some_flip-some : (c ls : List Literal) → some_flip c ls ≡ true → (l : Literal) × (has ls l ≡ true) × (has c (flip l) ≡ true)
+pub some_flip-some : (c ls : List Literal) → some_flip c ls ≡ true → (l : Literal) × (has ls l ≡ true) × (has c (flip l) ≡ true)
 some_flip-some c [] h = absurd (cc)
 some_flip-some c (x ∷ ls) h = elim (or_cases (has c (flip x)) (some_flip c ls) h) [
   | inl e ↦ (x, has-first x ls, e)

@@ -8,6 +8,7 @@ ghost use Rattle.lrat_replay.specs.Ledger.{IsAbove0, IsKeptOrAdded};
 use crate::replay::Replay;
 use clause_core::formula::Formula;
 use clause_core::lit::Lit;
+use wire_io::fault::NoMemory;
 
 /// Why a ledger does not take a step.
 #[derive(Clone, Copy, Debug, PartialEq, Eq)]
@@ -16,6 +17,16 @@ pub enum LearnFault {
     Failed,
     /// There was no memory. The ledger has the old steps.
     NoMemory,
+}
+
+impl From<NoMemory> for LearnFault {
+    ghost use Rattle.lrat_replay.specs.declared.ledger.LearnFault.TheVariants.{NoMemory};
+
+    ghost from_gives = { λ _ fault. fault ≡ NoMemory };
+
+    fn from(_: NoMemory) -> Self {
+        LearnFault::NoMemory
+    }
 }
 
 /// A formula, and the steps that replay accepted after it. Nothing deletes a clause or changes the formula.

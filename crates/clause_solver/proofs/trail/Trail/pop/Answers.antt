@@ -21,6 +21,7 @@ invariant_of-self c =
     let fresh = subst AreFresh newest c.self.invariant.fresh in
     let over = subst (AreOver c.self.inside.vars) newest c.self.invariant.over in
     record {
+      few = c.self.invariant.few;
       wide = subst (λ n. 2 * c.self.inside.vars + 2 ≤ n) (sym c.remove.ensures.room) c.self.invariant.wide;
       same = c.remove.ensures.removed ∙ ap (λ k. without_literal k c.in-Some.value.lit) (c.self.invariant.same ∙ ap known_by newest) ∙ known-pop c.in-Some.value older fresh.0.unknown;
       over = over.1;

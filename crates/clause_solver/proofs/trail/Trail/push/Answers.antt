@@ -15,6 +15,7 @@ invariant_of-self-2 c =
     let v : Value = record { lit = c.args.lit; reason = c.args.reason } in
     let newest : reverse c.push.new.self.items ≡ v ∷ reverse c.self.inside.values.items = ap reverse c.in_ok-push.ensures.items ∙ reverse-append c.self.inside.values.items (v ∷ []) in
     record {
+      few = c.self.invariant.few;
       wide = subst (λ n. 2 * c.self.inside.vars + 2 ≤ n) (sym c.add.ensures.room) c.self.invariant.wide;
       same = c.add.ensures.added ∙ ap (λ k. with_literal k c.args.lit) c.self.invariant.same ∙ ap known_by (sym newest);
       over = subst (AreOver c.self.inside.vars) (sym newest) (subst (λ (t : Track). IsVariableOf t.vars c.args.lit) (sym c.self.view_is) c.requires.variable, c.self.invariant.over);
