@@ -1,7 +1,9 @@
 -- Laws of literals, and of clauses seen as sets.
-use Rattle.std.proofs.Common.{◌≡◌, ℕ, ◌+◌, ◌*◌, Bool, true, false, not, cond, List, [], ◌∷◌, ◌⊎◌, inl, inr, refl, ap, sym, ◌∙◌, arith}
+use Rattle.std.specs.List.{Contains}
+use Rattle.std.proofs.lemmas.List.Elements.{Contains-append_right}
+use Rattle.std.proofs.Common.{◌≡◌, ◌↔◌, ℕ, zero, suc, ◌+◌, ◌*◌, Bool, true, false, not, cond, List, [], ◌∷◌, ◌⊎◌, inl, inr, refl, ap, sym, ◌∙◌, arith}
 use Rattle.std.proofs.lemmas.Bool.{eqb-true, eq-eqb, or_cases, or_parts, or_left, or_right}
-use Rattle.clause_core.specs.Literal.{Literal, flip, number, same, has, is_true, clause_is_true}
+use Rattle.clause_core.specs.Literal.{Literal, flip, number, same, has, is_true, clause_is_true, IsByVariableAndSign, HasItsLiterals}
 
 not-not : (b : Bool) → not (not b) ≡ b
 not-not true = refl
@@ -62,3 +64,24 @@ clause_is_true-none v (x ∷ xs) h l m = let p = or_parts (is_true v x) (clause_
   | inl e ↦ ap (is_true v) (sym e) ∙ p.0
   | inr e ↦ clause_is_true-none v xs p.1 l e
 ]
+
+pub by_variable_and_sign : IsByVariableAndSign
+by_variable_and_sign a b = (λ h. let e = same-true a b h in (ap (λ l. l.var) e, ap (λ l. l.negated) e), λ h. same-at a b (λ i. record { var = h.0 i; negated = h.1 i }))
+
+has-contains : (clause : List Literal) (l : Literal) → has clause l ≡ true → Contains clause l
+has-contains [] l h = absurd (cc)
+has-contains (x ∷ xs) l h = elim (has-cases x l xs h) [
+  | inl e ↦ (0, omega arith, e)
+  | inr e ↦ Contains-append_right (x ∷ []) xs l (has-contains xs l e)
+]
+
+contains-has : (clause : List Literal) (l : Literal) → Contains clause l → has clause l ≡ true
+contains-has [] l (k, h, e) = absurd (omega arith)
+contains-has (x ∷ xs) l (zero, h, e) = or_left (same x l) (has xs l) (same-at x l e)
+contains-has (x ∷ xs) l (suc k, h, e) = or_right (same x l) (has xs l) (contains-has xs l (k, omega arith, e))
+
+pub has_its_literals : HasItsLiterals
+has_its_literals clause l = (has-contains clause l, contains-has clause l)
+
+pub same-equal : (a b : Literal) (r : Bool) → r ≡ same a b → (r ≡ true) ↔ (a ≡ b)
+same-equal a b r e = (λ h. same-true a b (sym e ∙ h), λ h. e ∙ same-at a b h)

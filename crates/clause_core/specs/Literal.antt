@@ -1,5 +1,6 @@
 -- Literals and clauses, and what a valuation makes of them.
-use Rattle.std.specs.Prelude.{◌≡◌, ℕ, ◌+◌, ◌*◌, ◌/◌, ◌%◌, ◌==◌, Bool, false, cond, not, ◌||◌, List, [], ◌∷◌, ℤ, pos, neg_ℤ}
+use Rattle.std.specs.Prelude.{◌≡◌, ◌↔◌, ℕ, ◌+◌, ◌*◌, ◌/◌, ◌%◌, ◌==◌, Bool, true, false, cond, not, ◌||◌, List, [], ◌∷◌, ℤ, pos, neg_ℤ}
+use Rattle.std.specs.List.{Contains}
 use Rattle.std.proofs.Common.{ap, ◌∙◌, arith, inl, inr}
 use Rattle.std.proofs.lemmas.Bool.{cases_eq, eq-eqb, ne_eqb}
 
@@ -47,3 +48,11 @@ number-literal_of n = elim (cases_eq (n % 2) 1) [
   | inl odd ↦ ap (λ b. 2 * (n / 2) + cond b 1 0) (eq-eqb (n % 2) 1 odd) ∙ omega arith
   | inr even ↦ ap (λ b. 2 * (n / 2) + cond b 1 0) (ne_eqb (n % 2) 1 even) ∙ omega arith
 ]
+
+-- a literal is its variable and its sign: two are the same, by their numbers, exactly where these are
+abbrev pub IsByVariableAndSign : Type 0
+IsByVariableAndSign = (a b : Literal) → (same a b ≡ true) ↔ ((a.var ≡ b.var) × (a.negated ≡ b.negated))
+
+-- a clause has exactly the literals of its list
+abbrev pub HasItsLiterals : Type 0
+HasItsLiterals = (clause : List Literal) (l : Literal) → (has clause l ≡ true) ↔ Contains clause l

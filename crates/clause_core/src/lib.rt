@@ -1,6 +1,7 @@
 //! Literals, clauses, formulas and valuations, and CNF text.
 #![tactic(auto)]
 
+ghost use Rattle.clause_core.specs.Literal.{IsByVariableAndSign, HasItsLiterals};
 ghost use Rattle.clause_core.specs.RoundTrip.{IsRoundTrip};
 
 pub mod batch;
@@ -21,4 +22,10 @@ pub mod write;
 /// What is written is read, of all formulas within the limits of a read text.
 pub fn round_trip()
     ensures { IsRoundTrip }
+{}
+
+/// What literals and clauses are, whatever stands for them in memory.
+pub fn literal_meaning()
+    ensures literal { IsByVariableAndSign }
+    ensures clause { HasItsLiterals }
 {}

@@ -1,5 +1,5 @@
 //! Literals.
-ghost use Rattle.std.specs.Prelude.{◌≡◌, ℕ, ◌+◌, ◌*◌, ◌/◌, ◌%◌, ◌<◌, ◌≤◌, ◌==◌, ◌^◌, cond, Bool};
+ghost use Rattle.std.specs.Prelude.{◌≡◌, ℕ, ◌+◌, ◌*◌, ◌/◌, ◌%◌, ◌<◌, ◌≤◌, ◌==◌, ◌^◌, cond, Bool, IsTrue, ◌↔◌};
 ghost use Rattle.clause_core.specs.Literal.{Literal, flip, number, same, signed};
 
 use std::marker::Model;
@@ -65,7 +65,8 @@ impl Lit {
 
     /// Whether it is the same literal.
     pub fn is(self, other: Lit) -> bool
-        ensures { result ≡ same self other }
+        ensures value { result ≡ same self other }
+        ensures equal { IsTrue result ↔ (self ≡ other) }
     {
         self.code == other.code
     }

@@ -8,7 +8,7 @@ use Rattle.std.proofs.lemmas.List.Elements.{All-push}
 use Rattle.clause_core.specs.Literal.{Literal, flip, same, has}
 use Rattle.clause_core.specs.Formula.{IsOver}
 use Rattle.clause_core.proofs.Literals.{flip-flip, same-true, same-at, same-flip, has-first, has-rest, has-cases}
-use Rattle.lrat_replay.specs.Turn.{with_literal}
+use Rattle.lrat_replay.specs.Status.{with_literal}
 use Rattle.lrat_replay.specs.Hints.{FitsIn}
 use Rattle.lrat_replay.specs.declared.fault.StepFault.TheVariants.{Order, Variable, Tautology}
 use Rattle.lrat_replay.specs.Book.{Book, last_id, live, denied, run, fault_of_outcome, some_flip, some_above, addition_fault}
@@ -40,7 +40,7 @@ module _ (clause : List Literal) (i : ℕ) (x : Literal) (h : i < length clause)
       sym (ap (some_above vars) (drop-cons clause i x h) ∙ (λ j. nat_lt vars (sym e j).var || some_above vars (drop (sym (add-one i) j) clause)) ∙ ap (λ t. t || some_above vars (drop (i + 1) clause)) below)
 
 -- a literal and one more clause literal
-has-push : (c : List Literal) (x l : Literal) → has (c ++ x ∷ []) l ≡ (has c l || same x l)
+pub has-push : (c : List Literal) (x l : Literal) → has (c ++ x ∷ []) l ≡ (has c l || same x l)
 has-push [] x l = shape (same x l) where
   shape : (b : Bool) → (b || false) ≡ (false || b)
   shape b = grind arith
@@ -71,7 +71,7 @@ some_flip-true c (x ∷ ls) l h k = elim (has-cases x l ls h) [
   | inr e ↦ or_right (has c (flip x)) (some_flip c ls) (some_flip-true c ls l e k)
 ]
 
-some_flip-some : (c ls : List Literal) → some_flip c ls ≡ true → (l : Literal) × (has ls l ≡ true) × (has c (flip l) ≡ true)
+pub some_flip-some : (c ls : List Literal) → some_flip c ls ≡ true → (l : Literal) × (has ls l ≡ true) × (has c (flip l) ≡ true)
 some_flip-some c [] h = absurd (cc)
 some_flip-some c (x ∷ ls) h = elim (or_cases (has c (flip x)) (some_flip c ls) h) [
   | inl e ↦ (x, has-first x ls, e)

@@ -1,8 +1,8 @@
-pub mod Turns
+pub mod StatusLaws
 pub mod Runs
 pub mod Sound
 pub mod MarksLaws
-pub mod TurnSteps
+pub mod StatusSteps
 pub mod HintsLaws
 pub mod RisingLaws
 pub mod StoreLaws
@@ -12,3 +12,6 @@ pub mod ReplayLaws
 pub mod LratLaws
 pub mod ReadLaws
 pub mod StepLaws
+pub mod TallyLaws
+pub mod LearnedLaws
+pub mod SubsetLaws

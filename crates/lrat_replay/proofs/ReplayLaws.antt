@@ -1,8 +1,8 @@
 -- A replay stands where accepted lines led it.
-use Rattle.std.proofs.Common.{◌≡◌, ℕ, ◌+◌, ◌*◌, ◌==◌, ◌≤◌, Bool, true, false, ◌||◌, List, [], ◌∷◌, ◌++◌, length, refl, sym, ap, ◌∙◌, subst, arith, inl, inr, ◌⊎◌, None, ℤ, pos, negsuc, Result, Ok, Err}
+use Rattle.std.proofs.Common.{◌≡◌, ◌↔◌, ℕ, ◌+◌, ◌*◌, ◌==◌, ◌≤◌, Bool, true, false, not, ◌||◌, List, [], ◌∷◌, ◌++◌, length, refl, sym, ap, ◌∙◌, subst, arith, inl, inr, ◌⊎◌, None, ℤ, pos, negsuc, Result, Ok, Err}
 use Rattle.std.specs.Prelude.{OnOk, OnErr, is_err}
 use Rattle.std.specs.List.{Contains}
-use Rattle.std.proofs.lemmas.Bool.{or_cases, or_right, ne_eqb, true≢false}
+use Rattle.std.proofs.lemmas.Bool.{cases_Bool, both_ways, not-true, or_cases, or_left, or_right, ne_eqb, true≢false}
 use Rattle.std.proofs.lemmas.List.Elements.{Contains-append_right}
 use Rattle.clause_core.specs.Literal.{Literal, clause_is_true}
 use Rattle.clause_core.specs.Formula.{Satisfies}
@@ -10,9 +10,9 @@ use Rattle.lrat_replay.specs.declared.line.Step.{Step}
 use Rattle.lrat_replay.specs.declared.line.LineKind.{LineKind}
 use Rattle.lrat_replay.specs.declared.line.LineKind.TheVariants.{Add, Delete}
 use Rattle.lrat_replay.specs.Book.{Book, Numbered, all_of, addition_fault, after_addition, without, deletion_fault, after_deletion, line_fault, after_line, after_lines, Accepts, start, is_empty, some_empty}
-use Rattle.lrat_replay.specs.Laws.{IsReached, IsRefuted}
+use Rattle.lrat_replay.specs.Laws.{IsReached, IsRefuted, AddsEmpty}
 use Rattle.lrat_replay.specs.Replay.{IsReplay}
-use Rattle.lrat_replay.proofs.Sound.{AllTrue, addition_true, line_true, start_true, Contains-head}
+use Rattle.lrat_replay.proofs.Sound.{AllTrue, addition_true, line_true, start_true, Contains-head, Contains-cases}
 
 -- one more line
 accepts-more : (book : Book) (lines : List LineKind) (line : LineKind) → Accepts book lines → line_fault (after_lines book lines) line ≡ None → Accepts book (lines ++ line ∷ [])
@@ -115,6 +115,44 @@ refuted book h e = elim (added (start book.formula) h.lines (ap (λ b. some_empt
   | inl f ↦ absurd (true≢false (sym f))
   | inr a ↦ record { lines = h.lines; refutes = record { accepted = h.accepted; step = a.step; reached = a.among; empty = a.empty } }
 ]
+
+-- an empty clause that lines added is among the steps
+kept-empty : (book : Book) (lines : List LineKind) → some_empty book.steps ≡ true → some_empty (after_lines book lines).steps ≡ true
+kept-empty book [] h = h
+kept-empty book (Add step ∷ lines) h = kept-empty (after_addition book step.id step.clause) lines (some_empty-push book.steps (record { id = step.id; clause = step.clause }) ∙ or_left (some_empty book.steps) (is_empty step.clause) h)
+kept-empty book (Delete ids ∷ lines) h = kept-empty (after_deletion book ids) lines (ap some_empty (after_deletion-steps book ids) ∙ h)
+
+line-empty : (book : Book) (line : LineKind) (step : Step) → line ≡ Add step → step.clause ≡ [] → some_empty (after_line book line).steps ≡ true
+line-empty book line step e h = ap (λ k. some_empty (after_line book k).steps) e ∙ some_empty-push book.steps (record { id = step.id; clause = step.clause })
+    ∙ or_right (some_empty book.steps) (is_empty step.clause) (ap is_empty h)
+
+lines-empty : (book : Book) (lines : List LineKind) (step : Step) → Contains lines (Add step) → step.clause ≡ [] → some_empty (after_lines book lines).steps ≡ true
+lines-empty book [] step m h = absurd (omega arith)
+lines-empty book (line ∷ lines) step m h = elim (Contains-cases line lines (Add step) m) [
+  | inl e ↦ kept-empty (after_line book line) lines (line-empty book line step e h)
+  | inr e ↦ lines-empty (after_line book line) lines step e h
+]
+
+pub adds-empty : (book : Book) → AddsEmpty book → some_empty book.steps ≡ true
+adds-empty book h = ap (λ b. some_empty b.steps) (sym h.after) ∙ lines-empty (start book.formula) h.lines h.step h.among h.empty
+
+pub empty-added : (book : Book) → IsReached book → some_empty book.steps ≡ true → AddsEmpty book
+empty-added book h e = elim (added (start book.formula) h.lines (ap (λ b. some_empty b.steps) h.after ∙ e)) [
+  | inl f ↦ absurd (true≢false (sym f))
+  | inr a ↦ record { lines = h.lines; accepted = h.accepted; after = h.after; step = a.step; among = a.among; empty = a.empty }
+]
+
+pub adds_exactly : (book : Book) (b : Bool) → IsReached book → b ≡ some_empty book.steps → (b ≡ true) ↔ AddsEmpty book
+adds_exactly book b h e = (λ t. empty-added book h (sym e ∙ t), λ a. e ∙ adds-empty book a)
+
+pub adds_not : (book : Book) (b e : Bool) → IsReached book → b ≡ some_empty book.steps → e ≡ not b → (e ≡ true) ↔ (AddsEmpty book → ⊥)
+adds_not book b e h s n = (
+  λ t a. both_ways b (not-true b (sym n ∙ t)) (s ∙ adds-empty book a),
+  λ none. elim (cases_Bool b) [
+    | inl t ↦ absurd (none (empty-added book h (sym s ∙ t)))
+    | inr f ↦ n ∙ ap not f
+  ],
+)
 
 -- what a call that did not fail promised
 pub ok_part : {T E A : Type 0} (r : Result T E) → false ≡ is_err r → OnOk r A → A

@@ -1,14 +1,16 @@
 -- What lists of hints can come to: nothing, where a set of literals rests; and acceptance, where each hint forces the next literal.
 use Rattle.std.proofs.Common.{◌≡◌, ℕ, true, List, [], ◌∷◌, ◌++◌, inl, inr, refl, ap, sym, ◌∙◌, subst, ℤ, pos, negsuc, Option, None, Some}
 use Rattle.std.proofs.lemmas.Bool.{or_cases, both_ways}
-use Rattle.lrat_replay.specs.declared.turn.Turn.{Turn}
-use Rattle.lrat_replay.specs.declared.turn.Turn.TheVariants.{Settled, Wide, Forces, Clashes}
+use Rattle.lrat_replay.specs.declared.status.Status.{Status}
+use Rattle.lrat_replay.specs.declared.status.Status.TheVariants.{Satisfied, Unresolved, Forces, Conflict}
 use Rattle.clause_core.specs.Literal.{Literal, flip, same}
 use Rattle.clause_core.proofs.Literals.{same-true}
-use Rattle.lrat_replay.specs.Turn.{Known, turn, with_literal}
+use Rattle.lrat_replay.specs.Status.{Known, status, with_literal}
 use Rattle.lrat_replay.specs.Book.{Outcome, Accepted, Refused, Unfinished, run}
-use Rattle.lrat_replay.specs.declared.fault.StepFault.TheVariants.{Unknown, Satisfied, Loose}
-use Rattle.lrat_replay.proofs.Turns.{Rests, IsForced, IsClash, forces-is, clashes-is, is-forces, is-clashes}
+use Rattle.lrat_replay.specs.declared.fault.StepFault.TheVariants.{Unknown, Loose}
+use Rattle.lrat_replay.specs.declared.fault.StepFault.TheVariants as faults
+use Rattle.lrat_replay.specs.Status.{Rests, IsUnit, IsConflict}
+use Rattle.lrat_replay.proofs.StatusLaws.{forces-is, conflict-is, is-forces, is-conflict}
 
 -- no literal is known together with its complement
 abbrev pub IsConsistent : Known → Type 0
@@ -17,14 +19,14 @@ IsConsistent known = (l : Literal) → known l ≡ true → known (flip l) ≡ t
 abbrev pub IsWithin : Known → Known → Type 0
 IsWithin known all = (l : Literal) → known l ≡ true → all l ≡ true
 
--- a hint that names a clause, by its turn
+-- a hint that names a clause, by its status
 abbrev pub hinted : (ℕ → Option (List Literal)) → Known → List ℤ → Option (List Literal) → Outcome
 hinted at known hints None = Refused Unknown
-hinted at known hints (Some clause) = elim (turn known clause) [
-  | Settled ↦ Refused Satisfied
-  | Wide ↦ Refused Loose
+hinted at known hints (Some clause) = elim (status known clause) [
+  | Satisfied ↦ Refused faults.Satisfied
+  | Unresolved ↦ Refused Loose
   | Forces l ↦ run at (with_literal known l) hints
-  | Clashes ↦ Accepted
+  | Conflict ↦ Accepted
 ]
 
 module _ (at : ℕ → Option (List Literal)) where
@@ -32,11 +34,11 @@ module _ (at : ℕ → Option (List Literal)) where
   run-hinted known id hints = by (at id) where
     by : (o : Option (List Literal)) → elim o [
       | None ↦ Refused Unknown
-      | Some clause ↦ elim (turn known clause) [
-        | Settled ↦ Refused Satisfied
-        | Wide ↦ Refused Loose
+      | Some clause ↦ elim (status known clause) [
+        | Satisfied ↦ Refused faults.Satisfied
+        | Unresolved ↦ Refused Loose
         | Forces l ↦ run at (with_literal known l) hints
-        | Clashes ↦ Accepted
+        | Conflict ↦ Accepted
       ]
     ] ≡ hinted at known hints o
     by None = refl
@@ -44,13 +46,13 @@ module _ (at : ℕ → Option (List Literal)) where
 
   -- all is a set of literals under which each clause rests, as a trail after propagation, or a valuation that satisfies
   module _ (all : Known) (consistent : IsConsistent all) (rest : (id : ℕ) (clause : List Literal) → at id ≡ Some clause → Rests all clause) where
-    no_clash : (known : Known) → IsWithin known all → (clause : List Literal) → Rests all clause → turn known clause ≡ Clashes → ⊥
-    no_clash known h clause r t = let c = clashes-is known clause t in elim r [
+    no_clash : (known : Known) → IsWithin known all → (clause : List Literal) → Rests all clause → status known clause ≡ Conflict → ⊥
+    no_clash known h clause r t = let c = conflict-is known clause t in elim r [
       | inl s ↦ consistent s.lit s.is_known (h (flip s.lit) (c.all s.lit s.is_in))
       | inr w ↦ both_ways (all (flip w.one)) w.one_unknown (h (flip w.one) (c.all w.one w.one_in))
     ]
 
-    forced_in : (known : Known) → IsWithin known all → (clause : List Literal) (u : Literal) → Rests all clause → turn known clause ≡ Forces u → all u ≡ true
+    forced_in : (known : Known) → IsWithin known all → (clause : List Literal) (u : Literal) → Rests all clause → status known clause ≡ Forces u → all u ≡ true
     forced_in known h clause u r t = let c = forces-is known clause u t in elim r [
       | inl s ↦ elim (c.others s.lit s.is_in) [
         | inl e ↦ subst (λ l. all l ≡ true) (sym e) s.is_known
@@ -76,21 +78,21 @@ module _ (at : ℕ → Option (List Literal)) where
     Stays o = (o ≡ Accepted → ⊥) × ((k : Known) → o ≡ Unfinished k → IsWithin k all)
 
     by_turn : (known : Known) → IsWithin known all → (hints : List ℤ) → ((u : Literal) → all u ≡ true → Stays (run at (with_literal known u) hints)) →
-        (clause : List Literal) → Rests all clause → (t : Turn) → turn known clause ≡ t → Stays (elim t [
-          | Settled ↦ Refused Satisfied
-          | Wide ↦ Refused Loose
+        (clause : List Literal) → Rests all clause → (t : Status) → status known clause ≡ t → Stays (elim t [
+          | Satisfied ↦ Refused faults.Satisfied
+          | Unresolved ↦ Refused Loose
           | Forces l ↦ run at (with_literal known l) hints
-          | Clashes ↦ Accepted
+          | Conflict ↦ Accepted
         ])
-    by_turn known h hints more clause r Settled e = (λ f. cc, λ k f. absurd (cc))
-    by_turn known h hints more clause r Wide e = (λ f. cc, λ k f. absurd (cc))
-    by_turn known h hints more clause r Clashes e = absurd (no_clash known h clause r e)
+    by_turn known h hints more clause r Satisfied e = (λ f. cc, λ k f. absurd (cc))
+    by_turn known h hints more clause r Unresolved e = (λ f. cc, λ k f. absurd (cc))
+    by_turn known h hints more clause r Conflict e = absurd (no_clash known h clause r e)
     by_turn known h hints more clause r (Forces u) e = more u (forced_in known h clause u r e)
 
     by_clause : (known : Known) → IsWithin known all → (hints : List ℤ) → ((u : Literal) → all u ≡ true → Stays (run at (with_literal known u) hints)) →
         (id : ℕ) (o : Option (List Literal)) → at id ≡ o → Stays (hinted at known hints o)
     by_clause known h hints more id None e = (λ f. cc, λ k f. absurd (cc))
-    by_clause known h hints more id (Some clause) e = by_turn known h hints more clause (rest id clause e) (turn known clause) refl
+    by_clause known h hints more id (Some clause) e = by_turn known h hints more clause (rest id clause e) (status known clause) refl
 
     pub stays : (known : Known) → IsWithin known all → (hints : List ℤ) → (run at known hints ≡ Accepted → ⊥) × ((k : Known) → run at known hints ≡ Unfinished k → IsWithin k all)
     stays known h [] = (λ e. cc, λ k e. let f : known ≡ k = cc in subst (λ x. IsWithin x all) f h)
@@ -111,7 +113,7 @@ hints_of (e ∷ es) = pos e.id ∷ hints_of es
 pub record IsForcedBy (at : ℕ → Option (List Literal)) (known : Known) (id : ℕ) (l : Literal) : Type 0 where
   pub clause : List Literal
   pub found : at id ≡ Some clause
-  pub forces : IsForced known clause l
+  pub forces : IsUnit known clause l
 
 -- each entry's clause forces its literal where the literals before it are known
 abbrev pub Derives : (ℕ → Option (List Literal)) → Known → List Entry → Type 0
@@ -124,32 +126,32 @@ after known [] = known
 after known (e ∷ es) = after (with_literal known e.lit) es
 
 module _ (at : ℕ → Option (List Literal)) where
-  hinted-forces : (known : Known) (hints : List ℤ) (clause : List Literal) (u : Literal) → turn known clause ≡ Forces u → hinted at known hints (Some clause) ≡ run at (with_literal known u) hints
+  hinted-forces : (known : Known) (hints : List ℤ) (clause : List Literal) (u : Literal) → status known clause ≡ Forces u → hinted at known hints (Some clause) ≡ run at (with_literal known u) hints
   hinted-forces known hints clause u e = ap (λ t. elim t [
-    | Settled ↦ Refused Satisfied
-    | Wide ↦ Refused Loose
+    | Satisfied ↦ Refused faults.Satisfied
+    | Unresolved ↦ Refused Loose
     | Forces l ↦ run at (with_literal known l) hints
-    | Clashes ↦ Accepted
+    | Conflict ↦ Accepted
   ]) e
 
-  hinted-clashes : (known : Known) (hints : List ℤ) (clause : List Literal) → turn known clause ≡ Clashes → hinted at known hints (Some clause) ≡ Accepted
+  hinted-clashes : (known : Known) (hints : List ℤ) (clause : List Literal) → status known clause ≡ Conflict → hinted at known hints (Some clause) ≡ Accepted
   hinted-clashes known hints clause e = ap (λ t. elim t [
-    | Settled ↦ Refused Satisfied
-    | Wide ↦ Refused Loose
+    | Satisfied ↦ Refused faults.Satisfied
+    | Unresolved ↦ Refused Loose
     | Forces l ↦ run at (with_literal known l) hints
-    | Clashes ↦ Accepted
+    | Conflict ↦ Accepted
   ]) e
 
   -- a hint whose clause forces a literal, and one whose clause clashes
-  pub run-forces : (known : Known) (id : ℕ) (hints : List ℤ) (clause : List Literal) (u : Literal) → at id ≡ Some clause → turn known clause ≡ Forces u → run at known (pos id ∷ hints) ≡ run at (with_literal known u) hints
+  pub run-forces : (known : Known) (id : ℕ) (hints : List ℤ) (clause : List Literal) (u : Literal) → at id ≡ Some clause → status known clause ≡ Forces u → run at known (pos id ∷ hints) ≡ run at (with_literal known u) hints
   run-forces known id hints clause u found t = run-hinted at known id hints ∙ ap (hinted at known hints) found ∙ hinted-forces known hints clause u t
 
-  pub run-clashes : (known : Known) (id : ℕ) (hints : List ℤ) (clause : List Literal) → at id ≡ Some clause → turn known clause ≡ Clashes → run at known (pos id ∷ hints) ≡ Accepted
-  run-clashes known id hints clause found t = run-hinted at known id hints ∙ ap (hinted at known hints) found ∙ hinted-clashes known hints clause t
+  pub run-conflict : (known : Known) (id : ℕ) (hints : List ℤ) (clause : List Literal) → at id ≡ Some clause → status known clause ≡ Conflict → run at known (pos id ∷ hints) ≡ Accepted
+  run-conflict known id hints clause found t = run-hinted at known id hints ∙ ap (hinted at known hints) found ∙ hinted-clashes known hints clause t
 
   -- such a derivation, and then a clause that clashes, is accepted
-  pub accepted : (known : Known) (es : List Entry) (last : ℕ) (clause : List Literal) → Derives at known es → at last ≡ Some clause → IsClash (after known es) clause → run at known (hints_of es ++ pos last ∷ []) ≡ Accepted
-  accepted known [] last clause d found c = run-hinted at known last [] ∙ ap (hinted at known []) found ∙ hinted-clashes known [] clause (is-clashes known clause c)
+  pub accepted : (known : Known) (es : List Entry) (last : ℕ) (clause : List Literal) → Derives at known es → at last ≡ Some clause → IsConflict (after known es) clause → run at known (hints_of es ++ pos last ∷ []) ≡ Accepted
+  accepted known [] last clause d found c = run-hinted at known last [] ∙ ap (hinted at known []) found ∙ hinted-clashes known [] clause (is-conflict known clause c)
   accepted known (e ∷ es) last clause d found c =
       run-hinted at known e.id (hints_of es ++ pos last ∷ []) ∙ ap (hinted at known (hints_of es ++ pos last ∷ [])) d.0.found
       ∙ hinted-forces known (hints_of es ++ pos last ∷ []) d.0.clause e.lit (is-forces known d.0.clause e.lit d.0.forces)

@@ -15,7 +15,7 @@ use Rattle.lrat_replay.specs.declared.line.LineKind.TheVariants.{Add, Delete}
 use Rattle.lrat_replay.specs.declared.fault.StepFault.{StepFault}
 use Rattle.lrat_replay.specs.declared.fault.StepFault.TheVariants.{Order, Variable, Tautology}
 use Rattle.std.specs.Prelude.{nat_lt}
-use Rattle.lrat_replay.proofs.Turns.{Rests}
+use Rattle.lrat_replay.specs.Status.{Rests}
 use Rattle.lrat_replay.proofs.Runs.{IsConsistent, IsWithin, stays}
 
 Contains-one : {X : Type 0} (x y : X) → Contains (x ∷ []) y → x ≡ y
@@ -25,7 +25,7 @@ Contains-one x y (suc k, h, e) = absurd (omega arith)
 pub Contains-head : {X : Type 0} (x : X) (xs : List X) → Contains (x ∷ xs) x
 Contains-head x xs = (0, omega arith, refl)
 
-Contains-cases : {X : Type 0} (x : X) (xs : List X) (y : X) → Contains (x ∷ xs) y → (x ≡ y) ⊎ Contains xs y
+pub Contains-cases : {X : Type 0} (x : X) (xs : List X) (y : X) → Contains (x ∷ xs) y → (x ≡ y) ⊎ Contains xs y
 Contains-cases x xs y m = elim (Contains-append_cases (x ∷ []) xs y m) [
   | inl e ↦ inl (Contains-one x y e)
   | inr e ↦ inr e
@@ -73,7 +73,7 @@ module _ (v : ℕ → Bool) where
   ]
 
   live_true : (book : Book) (id : ℕ) (clause : List Literal) → AllTrue v (all_of book) → live book id ≡ Some clause → clause_is_true v clause ≡ true
-  live_true book id clause a = elim (set.contains book.gone id) as (λ b. cond b None (find (all_of book) id) ≡ Some clause → clause_is_true v clause ≡ true) [
+  live_true book id clause a = elim (set.contains book.deleted id) as (λ b. cond b None (find (all_of book) id) ≡ Some clause → clause_is_true v clause ≡ true) [
     | true ↦ λ h. absurd (cc)
     | false ↦ λ h. find_true (all_of book) id clause a h
   ]
@@ -106,7 +106,7 @@ module _ (v : ℕ → Bool) where
   after_deletion-all : (book : Book) (ids : List ℤ) → all_of (after_deletion book ids) ≡ all_of book
   after_deletion-all book [] = refl
   after_deletion-all book (negsuc n ∷ ids) = refl
-  after_deletion-all book (pos id ∷ ids) = after_deletion-all (record { formula = book.formula; steps = book.steps; gone = set.insert book.gone id }) ids
+  after_deletion-all book (pos id ∷ ids) = after_deletion-all (record { formula = book.formula; steps = book.steps; deleted = set.insert book.deleted id }) ids
 
   pub line_true : (book : Book) (line : LineKind) → AllTrue v (all_of book) → line_fault book line ≡ None → AllTrue v (all_of (after_line book line))
   line_true book (Add step) a h =

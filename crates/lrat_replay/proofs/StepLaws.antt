@@ -286,3 +286,7 @@ pub other_text : (line text : List ℕ) (read step : Step) → kind_of (words_of
 other_text line text read step k e h =
     let same = same_step read step (sym k ∙ kind-line line step h) in
     without_last text line 10 (e ∙ ap (λ s. step_text s.id s.clause s.hints) same ∙ h.text)
+
+-- a line is that of one step at most
+pub only_step : (line : List ℕ) (read step : Step) → kind_of (words_of line) ≡ Some (Add read) → IsLineOf line step → Some read ≡ Some step
+only_step line read step k h = ap Some (same_step read step (sym k ∙ kind-line line step h))

@@ -164,7 +164,7 @@ module _ (formula : Formula) (steps : List (List Literal)) (ids : List ℕ) (fla
         λ i. record {
           formula = formula;
           steps = (ap (λ xs. steps_of xs (steps ++ clause ∷ [])) (drop-append-le (length formula.clauses) ids (id ∷ []) within) ∙ steps_of-push (drop (length formula.clauses) ids) steps id clause rest_many) i;
-          gone = set.from_list (flagged-push ids flags id h.many_flags i);
+          deleted = set.from_list (flagged-push ids flags id h.many_flags i);
         }
 
     pub pushed-store : IsStore formula (steps ++ clause ∷ []) (ids ++ id ∷ []) (flags ++ false ∷ [])
@@ -189,7 +189,7 @@ pub new-book : (formula : Formula) (ids : List ℕ) (many : ℕ) → ids ≡ cou
 new-book formula ids many e = λ i. record {
   formula = formula;
   steps = none (drop (length formula.clauses) ids) i;
-  gone = set.from_list (flagged-none ids many i);
+  deleted = set.from_list (flagged-none ids many i);
 } where
   none : (xs : List ℕ) → steps_of xs [] ≡ []
   none [] = refl
@@ -229,7 +229,7 @@ module _ (formula : Formula) (steps : List (List Literal)) (ids : List ℕ) (fla
   book_marked = λ i. record {
     formula = formula;
     steps = steps_of (drop (length formula.clauses) ids) steps;
-    gone = (gone_set ids flags place p.within within_flags ∙ ap (set.insert (gone_of ids flags)) p.is) i;
+    deleted = (gone_set ids flags place p.within within_flags ∙ ap (set.insert (gone_of ids flags)) p.is) i;
   }
 
   pub is_live_found : (flag : Bool) → flag ≡ get_or flags place flag → flag ≡ false → is_live (book_of formula steps ids flags) id ≡ true
@@ -246,11 +246,11 @@ module _ (formula : Formula) (steps : List (List Literal)) (ids : List ℕ) (fla
   book_unmarked before lives same = λ i. record {
     formula = ap (λ b. b.formula) (sym same) i;
     steps = ap (λ b. b.steps) (sym same) i;
-    gone = (gone_unset ids flags place h.rising p.within ∙ ap (set.remove (gone_of ids flags)) p.is ∙ ap (λ b. set.remove b.gone id) (sym same)
-        ∙ remove-insert before.gone id (not_gone before id lives)) i;
+    deleted = (gone_unset ids flags place h.rising p.within ∙ ap (set.remove (gone_of ids flags)) p.is ∙ ap (λ b. set.remove b.deleted id) (sym same)
+        ∙ remove-insert before.deleted id (not_gone before id lives)) i;
   } where
-    not_gone : (book : Book) (id : ℕ) → is_live book id ≡ true → set.contains book.gone id ≡ false
-    not_gone book id = elim (set.contains book.gone id) as (λ b. is_some (cond b None (find (all_of book) id)) ≡ true → b ≡ false) [ true ↦ λ e. absurd (cc) | false ↦ λ e. refl ]
+    not_gone : (book : Book) (id : ℕ) → is_live book id ≡ true → set.contains book.deleted id ≡ false
+    not_gone book id = elim (set.contains book.deleted id) as (λ b. is_some (cond b None (find (all_of book) id)) ≡ true → b ≡ false) [ true ↦ λ e. absurd (cc) | false ↦ λ e. refl ]
 
 pub is_live_absent : (formula : Formula) (steps : List (List Literal)) (ids : List ℕ) (flags : List Bool) → IsStore formula steps ids flags → (id : ℕ) → IsAbsent ids id → is_live (book_of formula steps ids flags) id ≡ false
 is_live_absent formula steps ids flags h id absent = ap is_some (live_absent formula steps ids flags h id absent)
@@ -261,7 +261,7 @@ pub never_marked : (formula : Formula) (steps : List (List Literal)) (ids : List
 never_marked formula steps ids flags h id absent before lives same =
     let nowhere : find (all_of before) id ≡ None =
     ap (λ b. find (all_of b) id) same ∙ find_none (all_of (book_of formula steps ids flags)) id (subst (λ xs. IsAbsent xs id) (sym h.same_ids) absent) in
-    true≢false (sym lives ∙ either (set.contains before.gone id) (find (all_of before) id) nowhere) where
+    true≢false (sym lives ∙ either (set.contains before.deleted id) (find (all_of before) id) nowhere) where
       either : (b : Bool) (o : Option (List Literal)) → o ≡ None → is_some (cond b None o) ≡ false
       either true o e = refl
       either false o e = ap is_some e

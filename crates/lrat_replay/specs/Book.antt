@@ -5,12 +5,13 @@ use Rattle.std.specs.FinSet as set
 use Rattle.std.specs.Ordering.{nat_cmp}
 use Rattle.clause_core.specs.Literal.{Literal, flip, has}
 use Rattle.clause_core.specs.Formula.{Formula}
-use Rattle.lrat_replay.specs.Turn.{Known, turn, with_literal}
-use Rattle.lrat_replay.specs.declared.turn.Turn.TheVariants.{Settled, Wide, Forces, Clashes}
+use Rattle.lrat_replay.specs.Status.{Known, status, with_literal}
+use Rattle.lrat_replay.specs.declared.status.Status.TheVariants.{Satisfied, Unresolved, Forces, Conflict}
 use Rattle.lrat_replay.specs.declared.line.LineKind.{LineKind}
 use Rattle.lrat_replay.specs.declared.line.LineKind.TheVariants.{Add, Delete}
 use Rattle.lrat_replay.specs.declared.fault.StepFault.{StepFault}
-use Rattle.lrat_replay.specs.declared.fault.StepFault.TheVariants.{Order, Unknown, Satisfied, Loose, NoConflict, Rat, Tautology, Variable}
+use Rattle.lrat_replay.specs.declared.fault.StepFault.TheVariants.{Order, Unknown, Loose, NoConflict, Rat, Tautology, Variable}
+use Rattle.lrat_replay.specs.declared.fault.StepFault.TheVariants as faults
 
 -- a clause with its identifier
 pub record Numbered : Type 0 where
@@ -21,7 +22,7 @@ pub record Numbered : Type 0 where
 pub record Book : Type 0 where
   pub formula : Formula
   pub steps : List Numbered
-  pub gone : set.FinSet nat_cmp
+  pub deleted : set.FinSet nat_cmp
 
 -- clauses with identifiers that count up
 abbrev pub numbered : ℕ → List (List Literal) → List Numbered
@@ -38,7 +39,7 @@ find (entry ∷ entries) id = cond (entry.id == id) (Some entry.clause) (find en
 
 -- the live clause of an identifier
 abbrev pub live : Book → ℕ → Option (List Literal)
-live book id = cond (set.contains book.gone id) None (find (all_of book) id)
+live book id = cond (set.contains book.deleted id) None (find (all_of book) id)
 
 abbrev pub last_of : ℕ → List Numbered → ℕ
 last_of n [] = n
@@ -64,11 +65,11 @@ run at known [] = Unfinished known
 run at known (negsuc n ∷ hints) = Refused Rat
 run at known (pos id ∷ hints) = elim (at id) [
   | None ↦ Refused Unknown
-  | Some clause ↦ elim (turn known clause) [
-    | Settled ↦ Refused Satisfied
-    | Wide ↦ Refused Loose
+  | Some clause ↦ elim (status known clause) [
+    | Satisfied ↦ Refused faults.Satisfied
+    | Unresolved ↦ Refused Loose
     | Forces l ↦ run at (with_literal known l) hints
-    | Clashes ↦ Accepted
+    | Conflict ↦ Accepted
   ]
 ]
 
@@ -95,14 +96,14 @@ addition_fault book id clause hints =
     (fault_of_outcome (run (live book) (denied clause) hints))))
 
 abbrev pub after_addition : Book → ℕ → List Literal → Book
-after_addition book id clause = record { formula = book.formula; steps = book.steps ++ record { id = id; clause = clause } ∷ []; gone = book.gone }
+after_addition book id clause = record { formula = book.formula; steps = book.steps ++ record { id = id; clause = clause } ∷ []; deleted = book.deleted }
 
 abbrev pub is_live : Book → ℕ → Bool
 is_live book id = is_some (live book id)
 
 -- after the deletion of one clause
 abbrev pub without : Book → ℕ → Book
-without book id = record { formula = book.formula; steps = book.steps; gone = set.insert book.gone id }
+without book id = record { formula = book.formula; steps = book.steps; deleted = set.insert book.deleted id }
 
 -- why a deletion is refused, and what stands after one that is not
 abbrev pub deletion_fault : Book → List ℤ → Option StepFault
@@ -129,7 +130,7 @@ after_lines book [] = book
 after_lines book (line ∷ lines) = after_lines (after_line book line) lines
 
 abbrev pub start : Formula → Book
-start formula = record { formula = formula; steps = []; gone = set.empty }
+start formula = record { formula = formula; steps = []; deleted = set.empty }
 
 -- each line is accepted after those before it
 abbrev pub Accepts : Book → List LineKind → Type 0

@@ -35,3 +35,12 @@ pub record IsReached (book : Book) : Type 0 where
 pub record IsRefuted (formula : Formula) : Type 0 where
   pub lines : List LineKind
   pub refutes : Refutes formula lines
+
+-- some accepted lines lead from the formula to this book, and one of them adds the empty clause
+pub record AddsEmpty (book : Book) : Type 0 where
+  pub lines : List LineKind
+  pub accepted : Accepts (start book.formula) lines
+  pub after : after_lines (start book.formula) lines ≡ book
+  pub step : Step
+  pub among : Contains lines (Add step)
+  pub empty : step.clause ≡ []

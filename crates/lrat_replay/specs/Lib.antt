@@ -1,5 +1,5 @@
-pub mod Turn
-pub mod TurnStep
+pub mod Status
+pub mod StatusStep
 pub mod Book
 pub mod Laws
 pub mod New
@@ -10,3 +10,7 @@ pub mod Replay
 pub mod LratRead
 pub mod LratText
 pub mod StepRead
+pub mod Ledger
+pub mod Learned
+pub mod Together
+pub mod Subset

@@ -3,7 +3,7 @@ use Rattle.std.specs.Prelude.{◌≡◌, ℕ, ◌+◌, true, false, not, ◌&&�
 use Rattle.std.specs.List.{Contains}
 use Rattle.clause_core.specs.Literal.{Literal, flip, same, has}
 use Rattle.clause_core.specs.Formula.{Formula}
-use Rattle.lrat_replay.specs.Turn.{Known}
+use Rattle.lrat_replay.specs.Status.{Known}
 use Rattle.lrat_replay.specs.Book.{Book, Numbered, all_of, last_id, live, run, Accepted, Unfinished, addition_fault, after_addition, start}
 
 -- each literal of the one clause is in the other
@@ -24,8 +24,8 @@ pub record IsFree (book : Book) (clause : List Literal) (l : Literal) : Type 0 w
   pub not_accepted : (hints : List ℤ) → run (live book) (denied_but clause l) hints ≡ Accepted → ⊥
   pub not_true : (hints : List ℤ) (known : Known) → run (live book) (denied_but clause l) hints ≡ Unfinished known → known l ≡ false
 
--- some literal of the clause is free
-pub record Gains (book : Book) (clause : List Literal) : Type 0 where
+-- some literal of the clause is free: with the clause propagation goes further
+pub record TellsPropagation (book : Book) (clause : List Literal) : Type 0 where
   pub lit : Literal
   pub is_in : has clause lit ≡ true
   pub is_free : IsFree book clause lit
@@ -44,10 +44,10 @@ abbrev pub AreNew : Book → List Numbered → Type 0
 AreNew book [] = Unit {0}
 AreNew book (step ∷ steps) = IsNew book step.clause × AreNew (after_addition book step.id step.clause) steps
 
--- each step gains after those before it
-abbrev pub AllGain : Book → List Numbered → Type 0
-AllGain book [] = Unit {0}
-AllGain book (step ∷ steps) = Gains book step.clause × AllGain (after_addition book step.id step.clause) steps
+-- each step tells propagation something after those before it
+abbrev pub AllTellPropagation : Book → List Numbered → Type 0
+AllTellPropagation book [] = Unit {0}
+AllTellPropagation book (step ∷ steps) = TellsPropagation book step.clause × AllTellPropagation (after_addition book step.id step.clause) steps
 
 -- exactly so many steps, each accepted and new after those before it
 pub record Spent (formula : Formula) (steps : List Numbered) (budget : ℕ) : Type 0 where
@@ -55,7 +55,7 @@ pub record Spent (formula : Formula) (steps : List Numbered) (budget : ℕ) : Ty
   pub accepted : AreAccepted (start formula) steps
   pub are_new : AreNew (start formula) steps
 
--- each step gained, and propagation after them finds no conflict
+-- each step told propagation something, and propagation after them finds no conflict
 pub record IsOpen (formula : Formula) (steps : List Numbered) : Type 0 where
-  pub gain : AllGain (start formula) steps
-  pub undecided : IsUndecided (record { formula = formula; steps = steps; gone = (start formula).gone })
+  pub tell : AllTellPropagation (start formula) steps
+  pub undecided : IsUndecided (record { formula = formula; steps = steps; deleted = (start formula).deleted })

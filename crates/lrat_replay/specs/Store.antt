@@ -40,7 +40,7 @@ AreRising n (id ∷ ids) = (n < id) × AreRising id ids
 
 -- a formula and steps, with the identifiers of all their clauses and a flag for each: whether it was deleted
 abbrev pub book_of : Formula → List (List Literal) → List ℕ → List Bool → Book
-book_of formula steps ids flags = record { formula = formula; steps = steps_of (drop (length formula.clauses) ids) steps; gone = set.from_list (flagged ids flags) }
+book_of formula steps ids flags = record { formula = formula; steps = steps_of (drop (length formula.clauses) ids) steps; deleted = set.from_list (flagged ids flags) }
 
 -- what is true of the parts of a store
 pub record IsStore (formula : Formula) (steps : List (List Literal)) (ids : List ℕ) (flags : List Bool) : Type 0 where
@@ -70,4 +70,4 @@ coded_formula = code_by (ℕ × List (List Literal)) (coded× coded_ℕ (coded_l
 
 abbrev pub coded_book : Coded Book
 coded_book = code_by (Formula × (List Numbered × set.FinSet nat_cmp)) (coded× coded_formula (coded× (coded_list coded_numbered) (set.code coded_ℕ)))
-    (λ b. (b.formula, (b.steps, b.gone))) (λ p. record { formula = p.0; steps = p.1.0; gone = p.1.1 }) (λ _. refl)
+    (λ b. (b.formula, (b.steps, b.deleted))) (λ p. record { formula = p.0; steps = p.1.0; deleted = p.1.1 }) (λ _. refl)

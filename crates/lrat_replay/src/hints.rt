@@ -5,8 +5,8 @@ ghost use Rattle.lrat_replay.specs.Book.{live, run, fault_of_outcome};
 
 use crate::fault::StepFault;
 use crate::marks::Marks;
+use crate::status::{Status, scan};
 use crate::store::Store;
-use crate::turn::{Turn, turn_of};
 
 /// Follows the hints: marks what they force, until one clashes.
 pub fn follow(store: &Store, marks: &mut Marks, hints: &[i32]) -> Result<(), StepFault>
@@ -21,11 +21,11 @@ pub fn follow(store: &Store, marks: &mut Marks, hints: &[i32]) -> Result<(), Ste
         let Some(clause) = store.find(*hint as u32) else {
             return Err(StepFault::Unknown);
         };
-        match turn_of(marks, clause) {
-            Turn::Settled => return Err(StepFault::Satisfied),
-            Turn::Wide => return Err(StepFault::Loose),
-            Turn::Clashes => return Ok(()),
-            Turn::Forces(lit) => marks.add(lit),
+        match scan(marks, clause) {
+            Status::Satisfied => return Err(StepFault::Satisfied),
+            Status::Unresolved => return Err(StepFault::Loose),
+            Status::Conflict => return Ok(()),
+            Status::Forces(lit) => marks.add(lit),
         }
     }
     Err(StepFault::NoConflict)

@@ -1,7 +1,7 @@
 //! Sets of literals that are cleared at once.
 ghost use Rattle.std.specs.Prelude.{◌≡◌, ◌+◌, ◌*◌, ◌≤◌, ◌<◌, Bool, false, IfOk, All, length};
 ghost use Rattle.clause_core.specs.Literal.{Literal, number};
-ghost use Rattle.lrat_replay.specs.Turn.{Known, with_literal, without_literal, nothing};
+ghost use Rattle.lrat_replay.specs.Status.{Known, with_literal, without_literal, nothing};
 
 use clause_core::lit::Lit;
 use std::alloc::Global;

@@ -1,10 +1,11 @@
 //! Replay of steps, and what it shows of a formula.
-ghost use Rattle.std.specs.Prelude.{◌≡◌, ℕ, ◌+◌, ◌*◌, ◌<◌, ◌≤◌, Bool, true, false, OnOk, OnErr, IfOk, IfErr, None, Some, is_ok};
+ghost use Rattle.std.specs.Prelude.{◌≡◌, ℕ, ◌+◌, ◌*◌, ◌<◌, ◌≤◌, Bool, true, false, OnOk, OnErr, IfOk, IfErr, None, Some, is_ok, IsOk, IsErr, IsTrue, ◌↔◌};
 ghost use Rattle.clause_core.specs.Literal.{clause_is_true};
 ghost use Rattle.clause_core.specs.Formula.{IsOver, Satisfies, HasNoSolution};
 ghost use Rattle.lrat_replay.specs.Marks.{room};
 ghost use Rattle.lrat_replay.specs.Book.{Book, start, last_id, addition_fault, after_addition, deletion_fault, after_deletion, some_empty};
-ghost use Rattle.lrat_replay.specs.Laws.{IsRefuted, IsReached};
+ghost use Rattle.lrat_replay.specs.Laws.{IsRefuted, IsReached, AddsEmpty};
+ghost use Rattle.lrat_replay.specs.New.{IsNew};
 ghost use Rattle.lrat_replay.specs.Replay.{IsFault};
 
 use crate::deny::{deny, is_above};
@@ -12,6 +13,7 @@ use crate::fault::StepFault;
 use crate::hints::follow;
 use crate::marks::Marks;
 use crate::store::Store;
+use crate::subset::mark_all;
 use clause_core::formula::Formula;
 use clause_core::lit::Lit;
 use std::alloc::Global;
@@ -131,6 +133,7 @@ impl Replay {
 
     /// Whether an empty clause was accepted. The replay stands where accepted lines led it.
     pub fn reached(&self) -> bool
+        ensures exactly { IsTrue result ↔ AddsEmpty self.now }
         ensures value { result ≡ some_empty self.now.steps }
         ensures history { IsReached self.now }
     {
@@ -155,6 +158,17 @@ impl Replay {
         Ok(())
     }
 
+    /// Whether a clause over the formula's variables is new: it is not empty, and no clause of the formula or of a step
+    /// so far, deleted ones too, is a subset of it. The replay stays as it was.
+    pub fn is_new(&mut self, clause: &[Lit]) -> bool
+        requires { IsOver self.old.formula.vars clause.now }
+        ensures is_new { IsTrue result ↔ IsNew self.old clause.now }
+        ensures kept { self.new ≡ self.old }
+    {
+        mark_all(&mut self.marks, clause);
+        !clause.is_empty() && !self.store.has_within(&self.marks)
+    }
+
     /// Deletes clauses by their identifiers, one after the other. After a refusal the replay is as it was.
     pub fn delete(&mut self, ids: &[i32]) -> Result<(), StepFault>
         ensures accepted { OnOk result (deletion_fault self.old ids.now ≡ None) }
@@ -167,6 +181,8 @@ impl Replay {
 
     /// The formula as a refuted one, where an empty clause was accepted; else the replay as it was.
     pub fn refutation(self) -> Result<Refutation, Replay>
+        ensures ok_exactly { IsOk result ↔ AddsEmpty self }
+        ensures err_exactly { IsErr result ↔ ¬ AddsEmpty self }
         ensures reached { is_ok result ≡ some_empty self.steps }
         ensures ok { IfOk result (λ refutation. refutation ≡ self.formula) }
         ensures err { IfErr result (λ replay. replay ≡ self) }

@@ -79,9 +79,10 @@ fn read_addition_line(alloc: Global, line: &[u8]) -> Result<Option<Step>, NoMemo
     }
 }
 
-/// The step of which a line, with a line feed behind it, is the written text.
+/// The step of which a line, with a line feed behind it, is the written text, if there is one: there is no other.
 pub fn read_step(alloc: Global, line: &[u8]) -> Result<Option<Step>, NoMemory>
-    ensures { IfOk result (λ found. MatchOption found ((step : Step) → IsLineOf line.now step → ⊥) (IsLineOf line.now)) }
+    ensures only { IfOk result (λ found. (step : Step) → IsLineOf line.now step → found ≡ Some step) }
+    ensures found { IfOk result (λ found. MatchOption found ((step : Step) → IsLineOf line.now step → ⊥) (IsLineOf line.now)) }
 {
     let Some(step) = read_addition_line(alloc, line)? else {
         return Ok(None);

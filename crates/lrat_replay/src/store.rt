@@ -1,12 +1,16 @@
 //! The formula and the steps, with what was deleted.
-ghost use Rattle.std.specs.Prelude.{◌≡◌, ℕ, ◌+◌, ◌<◌, ◌≤◌, ◌^◌, [], length, OnOk, OnErr, IfOk, IfSome, MatchOption, None, Some, slice_get, slice_index, slice_index_or, ◌++◌, ◌-◌, All, replicate, true, false, ◌∷◌, IfErr, ℤ};
+ghost use Rattle.std.specs.Prelude.{◌≡◌, ℕ, ◌+◌, ◌<◌, ◌≤◌, ◌^◌, [], length, OnOk, OnErr, IfOk, IfSome, MatchOption, None, Some, slice_get, slice_index, slice_index_or, ◌++◌, ◌-◌, All, replicate, true, false, ◌∷◌, IfErr, ℤ, IsTrue, ◌↔◌, ◌*◌};
 ghost use Rattle.std.specs.FinSet as set;
 ghost use Rattle.clause_core.specs.Formula.{IsOver};
-ghost use Rattle.lrat_replay.specs.Book.{Book, start, last_id, live, is_live, without, after_addition, deletion_fault, after_deletion};
-ghost use Rattle.lrat_replay.specs.Store.{counted};
+ghost use Rattle.lrat_replay.specs.Book.{Book, all_of, start, last_id, live, is_live, without, after_addition, deletion_fault, after_deletion};
+ghost use Rattle.lrat_replay.specs.Store.{counted, clauses_of};
+ghost use Rattle.lrat_replay.specs.Marks.{known_of, room};
+ghost use Rattle.lrat_replay.specs.Subset.{SomeAreKnown};
 
 use crate::fault::StepFault;
+use crate::marks::Marks;
 use crate::place::place_of;
+use crate::subset::{some_of_formula, some_of_steps};
 use clause_core::clauses::Clauses;
 use clause_core::formula::Formula;
 use clause_core::lit::Lit;
@@ -63,7 +67,7 @@ pub struct Store {
     formula: Formula,
     steps: Clauses,
     ids: Vec<u32>,
-    gone: Vec<bool>,
+    deleted: Vec<bool>,
 }
 
 impl Model for Store {
@@ -74,9 +78,9 @@ impl Model for Store {
 
     ghost coded = { coded_book };
 
-    ghost view = { λ store. book_of store.formula store.steps store.ids.items store.gone.items };
+    ghost view = { λ store. book_of store.formula store.steps store.ids.items store.deleted.items };
 
-    ghost invariant = { λ store. IsStore store.formula store.steps store.ids.items store.gone.items };
+    ghost invariant = { λ store. IsStore store.formula store.steps store.ids.items store.deleted.items };
 }
 
 impl Store {
@@ -86,12 +90,12 @@ impl Store {
     {
         let count = formula.count();
         let ids = count_up(alloc, count)?;
-        let gone = no_flags(alloc, count as usize)?;
+        let deleted = no_flags(alloc, count as usize)?;
         Ok(Store {
             formula,
             steps: Clauses::new(alloc),
             ids,
-            gone,
+            deleted,
         })
     }
 
@@ -122,10 +126,19 @@ impl Store {
         ensures over { IfSome result (λ clause. IsOver self.now.formula.vars clause.now) }
     {
         let place = place_of(&self.ids, id)?;
-        if self.gone[place] {
+        if self.deleted[place] {
             return None;
         }
         Some(clause_at(&self.formula, &self.steps, place))
+    }
+
+    /// Whether some clause, a deleted one too, has only marked literals.
+    pub fn has_within(&self, marks: &Marks) -> bool
+        requires { 2 * self.now.formula.vars + 2 ≤ room marks.now }
+        ensures { IsTrue result ↔ SomeAreKnown (known_of marks.now) (clauses_of (all_of self.now)) }
+    {
+        some_of_formula(marks, &self.formula)
+            || some_of_steps(marks, self.formula.vars(), &self.steps)
     }
 
     /// Adds a clause under an identifier above the largest one so far.
@@ -136,10 +149,10 @@ impl Store {
         ensures err { OnErr result (self.new ≡ self.old) }
     {
         self.ids.reserve(1)?;
-        self.gone.reserve(1)?;
+        self.deleted.reserve(1)?;
         self.steps.push(clause)?;
         self.ids.push(id).unwrap();
-        self.gone.push(false).unwrap();
+        self.deleted.push(false).unwrap();
         Ok(())
     }
 
@@ -152,10 +165,10 @@ impl Store {
         let Some(place) = place_of(&self.ids, id) else {
             return false;
         };
-        if self.gone[place] {
+        if self.deleted[place] {
             return false;
         }
-        self.gone[place] = true;
+        self.deleted[place] = true;
         true
     }
 
@@ -164,7 +177,7 @@ impl Store {
         ensures { (before : Book) → is_live before id ≡ true → without before id ≡ self.old → self.new ≡ before }
     {
         if let Some(place) = place_of(&self.ids, id) {
-            self.gone[place] = false;
+            self.deleted[place] = false;
         }
     }
 

@@ -1,13 +1,24 @@
+use crate::deny::is_above;
 use crate::fault::StepFault;
+use crate::ledger::Ledger;
 use crate::read::read_lrat;
 use crate::refusal::LratRefusal;
 use crate::replay::Replay;
 use crate::step_text::read_step;
+use crate::tally::Tally;
 use crate::write::write_step;
 use clause_core::lit::Lit;
 use clause_core::read::read_cnf;
 use std::test::Fail;
 use wire_io::firm::FirmSink;
+
+/// Whether a clause is new, if it is over the formula's variables.
+fn is_new(replay: &mut Replay, clause: &[Lit]) -> Option<bool> {
+    if is_above(clause, replay.formula().vars()) {
+        return None;
+    }
+    Some(replay.is_new(clause))
+}
 
 #[test]
 fn an_empty_clause_is_reached(rt: HostRuntime) -> Result<(), Fail> {
@@ -23,6 +34,81 @@ fn an_empty_clause_is_reached(rt: HostRuntime) -> Result<(), Fail> {
     assert_eq!(rt; replay.last_id(), 3);
     let refutation = replay.refutation().ok().ok_or("not reached")?;
     assert_eq!(rt; refutation.formula().count(), 2);
+    Ok(())
+}
+
+#[test]
+fn each_refusal_of_a_step(rt: HostRuntime) -> Result<(), Fail> {
+    let alloc = rt.alloc();
+    let formula = read_cnf(alloc, b"p cnf 3 4\n1 0\n-1 2 0\n1 -2 3 0\n2 3 0\n")?;
+    let mut replay = Replay::new(alloc, formula).ok().ok_or("memory")?;
+    let two = Lit::new(2, false);
+    let three = Lit::new(3, false);
+    assert_eq!(rt; replay.step(4, &[two], &[1, 2]), Err(StepFault::Order));
+    assert_eq!(rt;
+        replay.step(2_147_483_648, &[two], &[1, 2]),
+        Err(StepFault::Order)
+    );
+    let four = Lit::new(4, true);
+    assert_eq!(rt; replay.step(5, &[four], &[1]), Err(StepFault::Variable));
+    assert_eq!(rt;
+        replay.step(5, &[two, two.flip()], &[1]),
+        Err(StepFault::Tautology)
+    );
+    assert_eq!(rt; replay.step(5, &[two], &[-1]), Err(StepFault::Rat));
+    assert_eq!(rt; replay.step(5, &[two], &[9]), Err(StepFault::Unknown));
+    assert_eq!(rt; replay.step(5, &[two], &[1, 1]), Err(StepFault::Satisfied));
+    assert_eq!(rt; replay.step(5, &[], &[4]), Err(StepFault::Loose));
+    assert_eq!(rt;
+        replay.step(5, &[three], &[1, 2]),
+        Err(StepFault::NoConflict)
+    );
+    assert_eq!(rt; replay.last_id(), 4);
+    assert_eq!(rt; replay.step(5, &[two], &[1, 2]), Ok(()));
+    assert_eq!(rt; replay.last_id(), 5);
+    Ok(())
+}
+
+#[test]
+fn deleted_clauses_are_no_hints_and_still_old(rt: HostRuntime) -> Result<(), Fail> {
+    let alloc = rt.alloc();
+    let formula = read_cnf(alloc, b"p cnf 3 2\n1 2 0\n1 -2 0\n")?;
+    let mut replay = Replay::new(alloc, formula).ok().ok_or("memory")?;
+    let one = Lit::new(1, false);
+    let three = Lit::new(3, false);
+    assert!(rt; is_new(&mut replay, &[one]) == Some(true));
+    assert!(rt; is_new(&mut replay, &[one, three]) == Some(true));
+    assert!(rt; is_new(&mut replay, &[]) == Some(false));
+    let longer = [three, Lit::new(2, false), one];
+    assert!(rt; is_new(&mut replay, &longer) == Some(false));
+    assert_eq!(rt; replay.step(3, &[one], &[1, 2]), Ok(()));
+    assert_eq!(rt; replay.delete(&[3, 1]), Ok(()));
+    assert_eq!(rt; replay.delete(&[2, 1]), Err(StepFault::Unknown));
+    assert_eq!(rt;
+        replay.step(4, &[one, three], &[3]),
+        Err(StepFault::Unknown)
+    );
+    assert!(rt; is_new(&mut replay, &[one, three]) == Some(false));
+    assert_eq!(rt;
+        replay.step(4, &[one, Lit::new(2, false)], &[2]),
+        Err(StepFault::Satisfied)
+    );
+    assert_eq!(rt; replay.last_id(), 3);
+    Ok(())
+}
+
+#[test]
+fn a_tally_is_as_the_ledger_within(rt: HostRuntime) -> Result<(), Fail> {
+    let alloc = rt.alloc();
+    let formula = read_cnf(alloc, b"p cnf 2 2\n1 2 0\n1 -2 0\n")?;
+    let replay = Replay::new(alloc, formula).ok().ok_or("memory")?;
+    let tally = Tally::new(replay);
+    assert_eq!(rt; tally.count(), 0);
+    assert_eq!(rt; tally.last_id(), 2);
+    assert_eq!(rt; tally.formula().vars(), 2);
+    let replay = tally.into_inner();
+    assert_eq!(rt; Ledger::last_id(&replay), 2);
+    assert_eq!(rt; Ledger::formula(&replay).count(), 2);
     Ok(())
 }
 

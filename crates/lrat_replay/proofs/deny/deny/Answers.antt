@@ -1,6 +1,6 @@
 use Rattle.std.proofs.Common.{◌≡◌, ◌∙◌, sym, ap, take, true, false}
 use Rattle.clause_core.specs.Literal.{flip, has}
-use Rattle.lrat_replay.specs.Turn.{with_literal}
+use Rattle.lrat_replay.specs.Status.{with_literal}
 use Rattle.lrat_replay.specs.Book.{denied, some_flip}
 use Rattle.lrat_replay.proofs.DenyLaws.{more, denied-more, no_flip-more, some_flip-true, has-take, has-at}
 use Rattle.lrat_replay.proofs.deny.deny.Goals as goal

@@ -2,7 +2,7 @@ use Rattle.lrat_replay.proofs.StoreLaws.{store_made, book_made}
 use Rattle.lrat_replay.proofs.store.Store.new.Goals as goal
 
 pub invariant_of-result : goal.invariant_of-result
-invariant_of-result c = store_made c.args.formula c.new.result c.in_ok-ids.ids.items c.in_ok-gone.gone.items c.count-count.result c.new.ensures c.in_ok-ids.ensures c.in_ok-gone.ensures c.count-count.ensures.value
+invariant_of-result c = store_made c.args.formula c.new.result c.in_ok-ids.ids.items c.in_ok-deleted.deleted.items c.count-count.result c.new.ensures c.in_ok-ids.ensures c.in_ok-deleted.ensures c.count-count.ensures.value
 
 pub returns : goal.returns
-returns c = book_made c.args.formula c.new.result c.in_ok-ids.ids.items c.in_ok-gone.gone.items c.count-count.result c.new.ensures c.in_ok-ids.ensures c.in_ok-gone.ensures c.count-count.ensures.value
+returns c = book_made c.args.formula c.new.result c.in_ok-ids.ids.items c.in_ok-deleted.deleted.items c.count-count.result c.new.ensures c.in_ok-ids.ensures c.in_ok-deleted.ensures c.count-count.ensures.value

@@ -8,7 +8,7 @@ pub invariant_of-self-2 : goal.invariant_of-self-2
 invariant_of-self-2 c =
     let ids = rw c.unwrap.ensures at c.push-2.ensures.items in
     let flags = rw c.unwrap-2.ensures at c.push-3.ensures.items in
-    store_more c.self.inside.formula c.self.inside.steps c.self.inside.ids.items c.self.inside.gone.items c.self.invariant c.args.id c.args.clause.now
+    store_more c.self.inside.formula c.self.inside.steps c.self.inside.ids.items c.self.inside.deleted.items c.self.invariant c.args.id c.args.clause.now
     (subst (λ b. last_id b < c.args.id) (sym c.self.view_is) c.requires.above) (subst (λ b. IsOver b.formula.vars c.args.clause.now) (sym c.self.view_is) c.requires.over)
     c.push.new.self c.push-2.new.self.items c.push-3.new.self.items c.in_ok-push.ensures.ok
     (ids ∙ ap (λ e. e ++ c.args.id ∷ []) c.reserve.ensures.items) (flags ∙ ap (λ e. e ++ false ∷ []) c.reserve-2.ensures.items)
@@ -17,7 +17,7 @@ pub returns-clause-ok : goal.returns-clause-ok
 returns-clause-ok c =
     let ids = rw c.unwrap.ensures at c.push-2.ensures.items in
     let flags = rw c.unwrap-2.ensures at c.push-3.ensures.items in
-    book_more c.self.inside.formula c.self.inside.steps c.self.inside.ids.items c.self.inside.gone.items c.self.invariant c.args.id c.args.clause.now
+    book_more c.self.inside.formula c.self.inside.steps c.self.inside.ids.items c.self.inside.deleted.items c.self.invariant c.args.id c.args.clause.now
     (subst (λ b. last_id b < c.args.id) (sym c.self.view_is) c.requires.above) (subst (λ b. IsOver b.formula.vars c.args.clause.now) (sym c.self.view_is) c.requires.over)
     c.push.new.self c.push-2.new.self.items c.push-3.new.self.items c.in_ok-push.ensures.ok
     (ids ∙ ap (λ e. e ++ c.args.id ∷ []) c.reserve.ensures.items) (flags ∙ ap (λ e. e ++ false ∷ []) c.reserve-2.ensures.items)

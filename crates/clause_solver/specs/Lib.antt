@@ -1,0 +1,5 @@
+pub mod Trail
+pub mod Kept
+pub mod Plain
+pub mod Analysis
+pub mod Copy

@@ -1,0 +1,190 @@
+//! Analysis of a conflict: a clause that it shows, with the hints by which replay accepts it.
+ghost use Rattle.std.specs.Prelude.{◌≡◌, ◌⊎◌, ℕ, ◌+◌, ◌*◌, ◌<◌, ◌≤◌, ◌∷◌, [], IfOk, IfSome, IfNone, true, false, All, List, length, map, pos};
+ghost use Rattle.clause_core.specs.Literal.{Literal, flip, has};
+ghost use Rattle.clause_core.specs.Formula.{IsOver};
+ghost use Rattle.lrat_replay.specs.Hints.{FitsIn};
+ghost use Rattle.lrat_replay.specs.Marks.{known_of, room};
+ghost use Rattle.lrat_replay.specs.Book.{run, denied, Accepted};
+ghost use Rattle.clause_solver.specs.Trail.{known_by, IsFresh, oldest, before_last, has_decision};
+ghost use Rattle.clause_solver.specs.declared.value.Value.{Value};
+ghost use Rattle.clause_solver.specs.Plain.{HaveReasons, IsConflictAt, AllRest, at_of};
+ghost use Rattle.clause_solver.specs.Analysis.{IsSomeSeen, IsNoneSeen, MayResolve, MayKeep, IsAsserting, IsAnchor};
+
+use crate::level::next_decision;
+use crate::trail::Trail;
+use clause_core::clauses::Clauses;
+use clause_core::lit::Lit;
+use lrat_replay::marks::Marks;
+use std::alloc::Global;
+use wire_io::fault::NoMemory;
+
+/// A learned clause with its hints, and how many of the oldest values stay at least.
+#[derive(Drop)]
+pub struct Learned {
+    pub clause: Vec<Lit>,
+    pub hints: Vec<u32>,
+    pub after: usize,
+}
+
+/// Marks the complements of a clause's literals.
+fn mark(seen: &mut Marks, clause: &[Lit])
+    requires { FitsIn (room seen.old) clause.now }
+    ensures kept { (x : Literal) → known_of seen.old x ≡ true → known_of seen.new x ≡ true }
+    ensures marked { (l : Literal) → has clause.now l ≡ true → known_of seen.new (flip l) ≡ true }
+    ensures room { room seen.new ≡ room seen.old }
+{
+    for lit in clause {
+        seen.add(lit.flip());
+    }
+}
+
+/// Whether a value from one place to another was seen.
+fn some_seen(trail: &Trail, seen: &Marks, from: usize, to: usize) -> bool
+    requires room { 2 * trail.now.vars + 2 ≤ room seen.now }
+    requires order { from ≤ to }
+    requires within { to ≤ length trail.now.values }
+    ensures some { result ≡ true → IsSomeSeen (known_by (oldest from trail.now.values)) (oldest to trail.now.values) (known_of seen.now) }
+    ensures none { result ≡ false → IsNoneSeen (known_by (oldest from trail.now.values)) (oldest to trail.now.values) (known_of seen.now) }
+{
+    for place in from..to {
+        if seen.has(trail.value(place).lit) {
+            return true;
+        }
+    }
+    false
+}
+
+/// The reason on which the value at a place, which was seen, is resolved, if it is not kept: at level zero, where
+/// `zero` values stand, always; at the last level, which begins at `start`, while another value of it was seen.
+fn reason_to_resolve(
+    trail: &Trail,
+    seen: &Marks,
+    zero: usize,
+    start: usize,
+    place: usize,
+) -> Option<u32>
+    requires room { 2 * trail.now.vars + 2 ≤ room seen.now }
+    requires order { zero ≤ start }
+    requires last { start < length trail.now.values }
+    requires newest { before_last trail.now.values ≡ oldest start trail.now.values }
+    requires within { place < length trail.now.values }
+    ensures resolves { IfSome result (λ id. (value : Value) → oldest (place + 1) trail.now.values ≡ value ∷ oldest place trail.now.values → MayResolve (known_by (oldest start trail.now.values)) (oldest place trail.now.values) (known_of seen.now) value id) }
+    ensures keeps { IfNone result ((value : Value) → oldest (place + 1) trail.now.values ≡ value ∷ oldest place trail.now.values → MayKeep (known_by (oldest start trail.now.values)) (oldest place trail.now.values) (known_of seen.now) value.lit) }
+{
+    let value = trail.value(place);
+    if place < zero {
+        return value.reason;
+    }
+    if place < start {
+        return None;
+    }
+    if some_seen(trail, seen, start, place) {
+        return value.reason;
+    }
+    None
+}
+
+/// How many of the oldest values stay at least, where one more literal is kept: up to the second one that is kept.
+fn values_after(kept: usize, after: usize, place: usize) -> usize
+    requires { place + 1 < 18446744073709551616 }
+    ensures { ((kept ≡ 1) × (result ≡ place + 1)) ⊎ ((kept ≡ 1 → ⊥) × (result ≡ after)) }
+{
+    if kept == 1 { place + 1 } else { after }
+}
+
+/// The clause at the first point at which one literal of the last level is left. The last level begins at `start`;
+/// values of level zero are resolved on their reasons, so these are among the hints.
+pub fn analyse(
+    alloc: Global,
+    trail: &Trail,
+    clauses: &Clauses,
+    seen: &mut Marks,
+    conflict: usize,
+    start: usize,
+) -> Result<Learned, NoMemory>
+    requires over { All (IsOver trail.now.vars) clauses.now }
+    requires room { 2 * trail.now.vars + 2 ≤ room seen.old }
+    requires few { length clauses.now < 2147483647 }
+    requires reasons { HaveReasons clauses.now trail.now.values }
+    requires conflict { IsConflictAt clauses.now (known_by trail.now.values) conflict }
+    requires last { start < length trail.now.values }
+    requires newest { before_last trail.now.values ≡ oldest start trail.now.values }
+    requires decided { has_decision trail.now.values ≡ true }
+    ensures accepted { IfOk result (λ learned. run (at_of clauses.now) (denied learned.clause.items) (map pos learned.hints.items) ≡ Accepted) }
+    ensures numbers { IfOk result (λ learned. All (λ id. (0 < id) × (id ≤ length clauses.now)) learned.hints.items) }
+    ensures is_false { IfOk result (λ learned. (l : Literal) → has learned.clause.items l ≡ true → known_by trail.now.values (flip l) ≡ true) }
+    ensures asserts { IfOk result (λ learned. IsAsserting (known_by (oldest start trail.now.values)) learned.clause.items) }
+    ensures anchor { IfOk result (λ learned. IsAnchor trail.now.values learned.clause.items learned.after) }
+    ensures room { room seen.new ≡ room seen.old }
+{
+    let zero = next_decision(trail, 0, start);
+    seen.clear();
+    mark(seen, clauses.clause(conflict));
+    let mut clause = Vec::new(alloc);
+    let mut hints = Vec::new(alloc);
+    hints.push(conflict as u32 + 1)?;
+    let mut after = 0;
+    let mut place = trail.len();
+    while place > 0 {
+        place -= 1;
+        let value = trail.value(place);
+        if seen.has(value.lit) {
+            match reason_to_resolve(trail, seen, zero, start, place) {
+                Some(id) => {
+                    mark(seen, clauses.clause(id as usize - 1));
+                    hints.push(id)?;
+                }
+                None => {
+                    after = values_after(clause.len(), after, place);
+                    clause.push(value.lit.flip())?;
+                }
+            }
+        }
+    }
+    hints.reverse();
+    Ok(Learned {
+        clause,
+        hints,
+        after,
+    })
+}
+
+/// The hints by which replay accepts the empty clause, where nothing was decided.
+pub fn refute(
+    alloc: Global,
+    trail: &Trail,
+    clauses: &Clauses,
+    seen: &mut Marks,
+    conflict: usize,
+) -> Result<Vec<u32>, NoMemory>
+    requires over { All (IsOver trail.now.vars) clauses.now }
+    requires room { 2 * trail.now.vars + 2 ≤ room seen.old }
+    requires few { length clauses.now < 2147483647 }
+    requires reasons { HaveReasons clauses.now trail.now.values }
+    requires conflict { IsConflictAt clauses.now (known_by trail.now.values) conflict }
+    requires decided { has_decision trail.now.values ≡ false }
+    ensures accepted { IfOk result (λ hints. run (at_of clauses.now) (denied []) (map pos hints.items) ≡ Accepted) }
+    ensures numbers { IfOk result (λ hints. All (λ id. (0 < id) × (id ≤ length clauses.now)) hints.items) }
+    ensures room { room seen.new ≡ room seen.old }
+{
+    seen.clear();
+    mark(seen, clauses.clause(conflict));
+    let mut hints = Vec::new(alloc);
+    hints.push(conflict as u32 + 1)?;
+    let mut place = trail.len();
+    while place > 0 {
+        place -= 1;
+        let value = trail.value(place);
+        match value.reason {
+            None => {}
+            Some(id) => {
+                if seen.has(value.lit) {
+                    mark(seen, clauses.clause(id as usize - 1));
+                    hints.push(id)?;
+                }
+            }
+        }
+    }
+    hints.reverse();
+    Ok(hints)
+}

@@ -1,0 +1,10 @@
+//! Search for a valuation, with each learned clause as a step of a ledger.
+#![tactic(auto)]
+
+pub mod analyse;
+pub mod decide;
+pub mod learn;
+pub mod level;
+pub mod propagate;
+pub mod trail;
+pub mod value;
