@@ -1,15 +1,36 @@
 //! Sizes of lattices as words.
-ghost use Rattle.std.specs.Prelude.{◌≡◌, ◌≢◌, MatchOption};
+ghost use Rattle.std.specs.Prelude.{◌≡◌, ◌≢◌, ℕ, ◌∷◌, List, [], MatchOption};
 ghost use Rattle.lattice_grid.specs.Rectangle.{Size, IsSize};
 ghost use Rattle.report_text.specs.Cells.{size_text};
+ghost use Rattle.report_text.specs.Pieces.{words};
 
-use crate::text::{cut, number_of};
+use crate::text::{cut, number_of, word_at};
 use lattice_grid::shape::Shape;
 
-/// The size that a word is, as `2x3`: the numbers of rows and columns, joined by the letter x; None where it is none.
+/// The size that a word is, as `2x3`: the numbers of rows and columns, joined by the letter x; None exactly where it is none.
 pub fn read_shape(word: &[u8]) -> Option<Shape>
     ensures { MatchOption result ((size : Size) → IsSize size → word.now ≢ size_text size) (λ size. IsSize size × (word.now ≡ size_text size)) }
 {
     let (rows, cols) = cut(word, b'x')?;
     Shape::new(number_of(rows)?, number_of(cols)?)
+}
+
+/// The size that is the first word of a line, and what follows it.
+pub(crate) fn shape_at(line: &[u8]) -> Option<(Shape, &[u8])>
+    ensures { MatchOption result ((size : Size) (w : List ℕ) (ws : List (List ℕ)) → IsSize size → words line.now ≢ size_text size ∷ w ∷ ws)
+        (λ found. IsSize found.0 × (words line.now ≡ size_text found.0 ∷ words found.1.now)) }
+{
+    let (word, rest) = word_at(line);
+    Some((read_shape(word)?, rest?))
+}
+
+/// The size that is the last word of a line.
+pub(crate) fn last_shape(line: &[u8]) -> Option<Shape>
+    ensures { MatchOption result ((size : Size) → IsSize size → words line.now ≢ size_text size ∷ []) (λ size. IsSize size × (words line.now ≡ size_text size ∷ [])) }
+{
+    let (word, rest) = word_at(line);
+    if rest.is_some() {
+        return None;
+    }
+    read_shape(word)
 }

@@ -1,5 +1,0 @@
-use Rattle.report_text.proofs.OneLaws.{one_answer}
-use Rattle.report_text.proofs.report.one_answer.Goals as goal
-
-pub returns : goal.returns
-returns c = one_answer
