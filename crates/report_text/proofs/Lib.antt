@@ -1,0 +1,10 @@
+pub mod PiecesLaws
+pub mod CutLaws
+pub mod NumberLaws
+pub mod SizeLaws
+pub mod TestedLaws
+pub mod SpellLaws
+pub mod JoinLaws
+pub mod RowsLaws
+pub mod WordLaws
+pub mod FormLaws

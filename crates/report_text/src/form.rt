@@ -11,7 +11,7 @@ ghost use Rattle.report_text.specs.Pieces.{words};
 use crate::answer::Version;
 use crate::array::array_of;
 use crate::shape::{last_shape, shape_at};
-use crate::text::{behind, last_number, number_at, word_at};
+use crate::text::{behind, last_number, last_word, number_at, word_at};
 use cube_core::assign::Assign;
 use lattice_grid::array::Array;
 use lattice_grid::shape::Shape;
@@ -144,11 +144,7 @@ fn two_words<'a>(line: &'a [u8], word: &[u8]) -> Option<(&'a [u8], &'a [u8])>
 {
     let line = behind(line, word)?;
     let (first, rest) = word_at(line);
-    let (second, rest) = word_at(rest?);
-    match rest {
-        None => Some((first, second)),
-        Some(_) => None,
-    }
+    Some((first, last_word(rest?)?))
 }
 
 /// The array behind this word.

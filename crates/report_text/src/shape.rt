@@ -4,7 +4,7 @@ ghost use Rattle.lattice_grid.specs.Rectangle.{Size, IsSize};
 ghost use Rattle.report_text.specs.Cells.{size_text};
 ghost use Rattle.report_text.specs.Pieces.{words};
 
-use crate::text::{cut, number_of, word_at};
+use crate::text::{cut, last_word, number_of, word_at};
 use lattice_grid::shape::Shape;
 
 /// The size that a word is, as `2x3`: the numbers of rows and columns, joined by the letter x; None exactly where it is none.
@@ -28,9 +28,5 @@ pub(crate) fn shape_at(line: &[u8]) -> Option<(Shape, &[u8])>
 pub(crate) fn last_shape(line: &[u8]) -> Option<Shape>
     ensures { MatchOption result ((size : Size) → IsSize size → words line.now ≢ size_text size ∷ []) (λ size. IsSize size × (words line.now ≡ size_text size ∷ [])) }
 {
-    let (word, rest) = word_at(line);
-    if rest.is_some() {
-        return None;
-    }
-    read_shape(word)
+    read_shape(last_word(line)?)
 }

@@ -74,25 +74,37 @@ pub fn number_of(word: &[u8]) -> Option<u32>
     parsed(word)
 }
 
+/// The number of at most `most` that the word is.
+fn number_within(word: &[u8], most: u32) -> Option<u32>
+    ensures { MatchOption result ((n : ℕ) → n ≤ most → word.now ≢ decimal n) (λ n. (n ≤ most) × (word.now ≡ decimal n)) }
+{
+    let number = number_of(word)?;
+    if number <= most { Some(number) } else { None }
+}
+
 /// The number of at most `most` that is the first word of a line, and what follows it.
 pub fn number_at(line: &[u8], most: u32) -> Option<(u32, &[u8])>
     ensures { MatchOption result ((n : ℕ) (w : List ℕ) (ws : List (List ℕ)) → n ≤ most → words line.now ≢ decimal n ∷ w ∷ ws)
         (λ found. (found.0 ≤ most) × (words line.now ≡ decimal found.0 ∷ words found.1.now)) }
 {
     let (word, rest) = word_at(line);
-    let number = number_of(word)?;
-    let rest = rest?;
-    if number <= most { Some((number, rest)) } else { None }
+    Some((number_within(word, most)?, rest?))
 }
 
-/// The number of at most `most` that is the last word of a line.
+/// The only word of a line.
+pub fn last_word(line: &[u8]) -> Option<&[u8]>
+    ensures { MatchOption result ((w : List ℕ) → words line.now ≢ w ∷ []) (λ w. words line.now ≡ w.now ∷ []) }
+{
+    let (word, rest) = word_at(line);
+    match rest {
+        None => Some(word),
+        Some(_) => None,
+    }
+}
+
+/// The number of at most `most` that is the only word of a line.
 pub fn last_number(line: &[u8], most: u32) -> Option<u32>
     ensures { MatchOption result ((n : ℕ) → n ≤ most → words line.now ≢ decimal n ∷ []) (λ n. (n ≤ most) × (words line.now ≡ decimal n ∷ [])) }
 {
-    let (word, rest) = word_at(line);
-    if rest.is_some() {
-        return None;
-    }
-    let number = number_of(word)?;
-    if number <= most { Some(number) } else { None }
+    number_within(last_word(line)?, most)
 }

@@ -1,0 +1,5 @@
+use Rattle.report_text.proofs.FormLaws.{forms}
+use Rattle.report_text.proofs.report.one_answer.Goals as goal
+
+pub returns : goal.returns
+returns c = ?
