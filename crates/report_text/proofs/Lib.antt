@@ -8,3 +8,7 @@ pub mod JoinLaws
 pub mod RowsLaws
 pub mod WordLaws
 pub mod FormLaws
+pub mod MeetsLaws
+pub mod LeadLaws
+pub mod FeedLaws
+pub mod StopLaws

@@ -114,7 +114,7 @@ abbrev pub report_expected : List Expected
 report_expected = Title ∷ []
 
 abbrev pub after_title : Version → List Expected
-after_title version = Inputs ∷ (rails_expected version ++ blocks_expected version)
+after_title version = inputs_expected ++ (rails_expected version ++ blocks_expected version)
 
 abbrev pub after_heading : Version → Form → List Expected
 after_heading version form = cells_expected (lattice_size form) ++ proofs_expected (lists version form)

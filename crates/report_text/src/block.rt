@@ -2,7 +2,7 @@
 ghost use Rattle.std.specs.Prelude.{◌≡◌, ◌≢◌, ℕ, ◌+◌, ◌*◌, ◌≤◌, ◌++◌, List, All, MatchResult, MatchOption, IfOk, IfErr, IfSome, IsErrOf, ◌⊎◌, Err, length, drop};
 ghost use Rattle.std.specs.Result.{IsOkAnd};
 ghost use Rattle.lattice_grid.specs.Control.{NamesBelow};
-ghost use Rattle.report_text.specs.Expected.{HasLattice, HasCells, HasProofs, Stops, refusal_of, rows_expected, cells_expected, proofs_expected, block_expected, answer_with};
+ghost use Rattle.report_text.specs.Expected.{Expected, HasLattice, HasCells, HasProofs, Stops, refusal_of, rows_expected, cells_expected, proofs_expected, block_expected, answer_with};
 ghost use Rattle.report_text.specs.Form.{lattice_size};
 ghost use Rattle.report_text.specs.Reading.{HasBlock, IsBlockFault};
 ghost use Rattle.report_text.specs.Report.{BlockParts, parts_of_block};
@@ -54,7 +54,7 @@ fn rows_at(
     requires { first ≤ 536870914 }
     ensures { MatchResult result
         (λ found. HasLattice shape bytes.now found.0.items found.1.now)
-        (λ fault. Stops (rows_expected shape) bytes.now first (refusal_of fault)) }
+        (λ fault. (later : List Expected) → Stops (rows_expected shape ++ later) bytes.now first (refusal_of fault)) }
 {
     let mut cells = Vec::new(alloc);
     let mut rest = bytes;
@@ -81,7 +81,7 @@ fn cells_at(
     requires { first ≤ 536870914 }
     ensures { MatchResult result
         (λ found. HasCells shape bytes.now found.0.items found.1.now)
-        (λ fault. Stops (cells_expected shape) bytes.now first (refusal_of fault)) }
+        (λ fault. (later : List Expected) → Stops (cells_expected shape ++ later) bytes.now first (refusal_of fault)) }
 {
     match shape {
         None => Ok((Vec::new(alloc), bytes)),
@@ -98,7 +98,7 @@ fn proofs_at(
 ) -> Result<(Vec<Proof>, &[u8]), BlockFault>
     ensures { MatchResult result
         (λ found. HasProofs follow bytes.now found.0.items found.1.now)
-        (λ fault. Stops (proofs_expected follow) bytes.now line (refusal_of fault)) }
+        (λ fault. (later : List Expected) → Stops (proofs_expected follow ++ later) bytes.now line (refusal_of fault)) }
 {
     if !follow {
         return Ok((Vec::new(alloc), bytes));

@@ -2,7 +2,7 @@
 ghost use Rattle.std.specs.Prelude.{◌≡◌, ◌≢◌, ℕ, ◌+◌, ◌≤◌, ◌∷◌, List, map, MatchOption, MatchResult, IfOk, IfErr, IsErrOf, ◌⊎◌, Result, Ok, Err, ◌++◌, [], length, codes, decimal};
 ghost use Rattle.pla_reader.specs.Names.{bytes_of};
 ghost use Rattle.report_text.specs.Bounds.{AreNames, AreRails, IsReport};
-ghost use Rattle.report_text.specs.Expected.{AreBlocks, Stops, refusal_of, report_expected, inputs_expected, rails_expected, blocks_expected};
+ghost use Rattle.report_text.specs.Expected.{Expected, AreBlocks, Stops, refusal_of, report_expected, inputs_expected, rails_expected, blocks_expected};
 ghost use Rattle.report_text.specs.Pieces.{words, feeds};
 ghost use Rattle.report_text.specs.Reading.{Gives, seen, IsRefused};
 ghost use Rattle.report_text.specs.declared.answer.Version.{Version};
@@ -105,7 +105,7 @@ fn title_at(bytes: &[u8]) -> Result<(Version, &[u8]), ReportRefusal>
 fn inputs_at(alloc: Global, bytes: &[u8]) -> Result<(Vec<Name>, &[u8]), ReportRefusal>
     ensures { MatchResult result
         (λ found. AreNames (map bytes_of found.0.items) × (bytes.now ≡ text_of (inputs_line (map bytes_of found.0.items) ∷ []) ++ found.1.now))
-        (λ refusal. Stops inputs_expected bytes.now 2 refusal) }
+        (λ refusal. (later : List Expected) → Stops (inputs_expected ++ later) bytes.now 2 refusal) }
 {
     let Some((text, rest)) = cut(bytes, b'\n') else {
         return Err(ReportRefusal::Truncated { line: 2 });
@@ -129,7 +129,7 @@ fn rails_of(line: &[u8]) -> Option<u32>
 fn rails_at(bytes: &[u8], version: Version) -> Result<(u32, &[u8]), ReportRefusal>
     ensures { MatchResult result
         (λ found. AreRails version found.0 × (bytes.now ≡ text_of (rails_lines version found.0) ++ found.1.now))
-        (λ refusal. Stops (rails_expected version) bytes.now 3 refusal) }
+        (λ refusal. (later : List Expected) → Stops (rails_expected version ++ later) bytes.now 3 refusal) }
 {
     if version == Version::One {
         return Ok((ALL_RAILS, bytes));
