@@ -12,3 +12,5 @@ pub mod MeetsLaws
 pub mod LeadLaws
 pub mod FeedLaws
 pub mod StopLaws
+pub mod WholeLaws
+pub mod MemberLaws

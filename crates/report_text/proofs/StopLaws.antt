@@ -102,7 +102,7 @@ halts es text first (Truncated n) wide ne m = halts_runs_out es text first n m
 halts es text first NoMemory wide ne m = absurd (ne refl)
 
 -- where lines go on as expected no other ones halt
-goes_on : (es after : List Expected) (front ys : List Line) (l : Line) (q : List Expected) → Leads es front after → Leads es (front ++ l ∷ ys) q → (more : List Expected) × Leads after (l ∷ []) more
+pub goes_on : (es after : List Expected) (front ys : List Line) (l : Line) (q : List Expected) → Leads es front after → Leads es (front ++ l ∷ ys) q → (more : List Expected) × Leads after (l ∷ []) more
 goes_on es after front ys l q x y =
     let parts = leads_split es q front (l ∷ ys) y in
     let same = leads_same es front parts.0 after parts.1 x in
