@@ -14,3 +14,6 @@ pub mod FeedLaws
 pub mod StopLaws
 pub mod WholeLaws
 pub mod MemberLaws
+pub mod SameLaws
+pub mod InnerLaws
+pub mod AnswerLaws

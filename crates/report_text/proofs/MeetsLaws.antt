@@ -37,7 +37,7 @@ tested_words (x ∷ xs) (y ∷ ys) = elim (tested_list x y) [
 abbrev digit : List (List ℕ) → ℕ
 digit ws = get_or (get_or ws 2 []) 0 0
 
-same_title : (v w : Version) → title_words v ≡ title_words w → v ≡ w
+pub same_title : (v w : Version) → title_words v ≡ title_words w → v ≡ w
 same_title versions.One versions.One e = refl
 same_title versions.Two versions.Two e = refl
 same_title versions.One versions.Two e = absurd (omega (arith, ap digit e))

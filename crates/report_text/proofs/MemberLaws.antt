@@ -141,7 +141,7 @@ is_form_of (answers.NoneMapped a) p = p
 is_form_of (answers.MapUndecided a n) p = p
 is_form_of (answers.NoRails x y) p = p
 
-answer_lead : (a : Answer) (later : List Expected) → IsAnswer a → Leads (cells_expected (lattice_size (form_of a)) ++ later) (lattice_lines (lattice_of a)) later
+pub answer_lead : (a : Answer) (later : List Expected) → IsAnswer a → Leads (cells_expected (lattice_size (form_of a)) ++ later) (lattice_lines (lattice_of a)) later
 answer_lead (answers.Found g) later p = lattice_lead g later p
 answer_lead (answers.Minimum g) later p = lattice_lead g later p
 answer_lead (answers.Undecided g l a n) later p = lattice_lead g later p.0
@@ -168,7 +168,7 @@ body_lead v b later is =
 pub opens_block : (v : Version) (b : BlockParts) → IsBlock v b → Opens v (heading_words (heading_of b)) (after_heading v (form_of b.answer))
 opens_block v b is = record { heading = heading_of b; is_heading = heading_of_block v b is; words_are = refl; more_is = refl }
 
-block_lead : (v : Version) (b : BlockParts) → IsBlock v b → Leads (block_expected v) (block_lines v b) []
+pub block_lead : (v : Version) (b : BlockParts) → IsBlock v b → Leads (block_expected v) (block_lines v b) []
 unfolding block_lines
 block_lead v b is = (after_heading v (form_of b.answer), refl, opens_block v b is, body_lead v b [] is)
 
@@ -292,7 +292,7 @@ head_lead v rails names is are =
     (after_title v, refl, (v, refl, refl), subst (λ z. Leads z (inputs_line names ∷ rails_lines v rails) (blocks_expected v)) (sym (append-nil (after_title v)))
     ([], refl, (names, are, refl, refl), rails_lead v rails (blocks_expected v) is))
 
-report_lead : (r : ReportParts) → IsReport r → Leads report_expected (report_lines r) []
+pub report_lead : (r : ReportParts) → IsReport r → Leads report_expected (report_lines r) []
 unfolding report_lines
 report_lead r is =
     leads_append report_expected (blocks_expected r.version) [] (head_lines r.version r.rails r.input_names) (flat_map (block_lines r.version) r.blocks ++ end_line ∷ [])

@@ -43,7 +43,7 @@ pub record Halts (es : List Expected) (text : List ℕ) (first : ℕ) (refusal :
   pub some : after ≡ [] → rest ≢ []
   pub is : refusal ≡ pick (feeds rest) after (first + length front)
 
-halts_misses : (es : List Expected) (kind : Kind) (text : List ℕ) (first n : ℕ) → All IsWide es → ((es' : List Expected) (lines : List Line) → Leads es lines es' → All IsWide es') → Misses es kind text first n
+pub halts_misses : (es : List Expected) (kind : Kind) (text : List ℕ) (first n : ℕ) → All IsWide es → ((es' : List Expected) (lines : List Line) → Leads es lines es' → All IsWide es') → Misses es kind text first n
     → Halts es text first (refusal_for kind n)
 halts_misses es kind text first n wide wider m = record {
   front = m.front;
