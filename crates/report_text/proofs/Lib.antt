@@ -17,3 +17,9 @@ pub mod MemberLaws
 pub mod SameLaws
 pub mod InnerLaws
 pub mod AnswerLaws
+pub mod ItemsLaws
+pub mod LinesLaws
+pub mod TitleLaws
+pub mod PartLaws
+pub mod CellsLaws
+pub mod NamesLaws

@@ -15,6 +15,10 @@ pub record AreRows {X : Type 0} (P : X → Type 0) (cols many : ℕ) (rows : Lis
   pub wide : All (λ row. length row ≡ cols) rows
   pub each : All (All P) rows
 
+pub length-rows_of : {X : Type 0} (cols many : ℕ) (cells : List X) → length (rows_of cols many cells) ≡ many
+length-rows_of cols zero cells = refl
+length-rows_of cols (suc many) cells = ap suc (length-rows_of cols many (drop cols cells))
+
 pub rows_of-are : {X : Type 0} (P : X → Type 0) (cols many : ℕ) (cells : List X) → length cells ≡ many * cols → All P cells → AreRows P cols many (rows_of cols many cells)
 rows_of-are P cols zero cells e h = record { many_are = refl; wide = All-nil _; each = All-nil (All P) }
 rows_of-are P cols (suc many) cells e h =

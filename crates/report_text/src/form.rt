@@ -10,7 +10,7 @@ ghost use Rattle.report_text.specs.Pieces.{words};
 
 use crate::answer::Version;
 use crate::array::array_of;
-use crate::shape::{last_shape, shape_at};
+use crate::shape::{last_shape, read_shape};
 use crate::text::{behind, last_number, last_word, number_at, word_at};
 use cube_core::assign::Assign;
 use lattice_grid::array::Array;
@@ -90,10 +90,9 @@ fn bound_of(line: &[u8]) -> Option<(u32, Shape, u32)>
     let line = behind(line, b"least")?;
     let (least, line) = number_at(line, u32::MAX)?;
     let line = behind(line, b"at")?;
-    let Some((at, line)) = shape_at(line) else {
-        return None;
-    };
-    let line = behind(line, b"after")?;
+    let (word, rest) = word_at(line);
+    let at = read_shape(word)?;
+    let line = behind(rest?, b"after")?;
     let after = last_number(line, MOST_STEPS)?;
     if least == at.area() {
         Some((least, at, after))
@@ -109,10 +108,9 @@ fn undecided(line: &[u8]) -> Option<(Shape, u32, Shape, u32)>
         (λ found. IsForm (Form.Undecided found.0 found.1 found.2 found.3) × (words line.now ≡ form_words (Form.Undecided found.0 found.1 found.2 found.3))) }
 {
     let line = behind(line, b"undecided")?;
-    let Some((shape, line)) = shape_at(line) else {
-        return None;
-    };
-    let (least, at, after) = bound_of(line)?;
+    let (word, rest) = word_at(line);
+    let shape = read_shape(word)?;
+    let (least, at, after) = bound_of(rest?)?;
     Some((shape, least, at, after))
 }
 

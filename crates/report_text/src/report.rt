@@ -126,20 +126,29 @@ fn rails_of(line: &[u8]) -> Option<u32>
 }
 
 /// The rails on the third line of a text of version 2, at the front of the bytes, and what follows.
-fn rails_at(bytes: &[u8], version: Version) -> Result<(u32, &[u8]), ReportRefusal>
+fn rails_line(bytes: &[u8]) -> Result<(u32, &[u8]), ReportRefusal>
     ensures { MatchResult result
-        (λ found. AreRails version found.0 × (bytes.now ≡ text_of (rails_lines version found.0) ++ found.1.now))
-        (λ refusal. (later : List Expected) → Stops (rails_expected version ++ later) bytes.now 3 refusal) }
+        (λ found. AreRails Version.Two found.0 × (bytes.now ≡ text_of (rails_lines Version.Two found.0) ++ found.1.now))
+        (λ refusal. (later : List Expected) → Stops (rails_expected Version.Two ++ later) bytes.now 3 refusal) }
 {
-    if version == Version::One {
-        return Ok((ALL_RAILS, bytes));
-    }
     let Some((text, rest)) = cut(bytes, b'\n') else {
         return Err(ReportRefusal::Truncated { line: 3 });
     };
     match rails_of(text) {
         None => Err(ReportRefusal::Rails { line: 3 }),
         Some(rails) => Ok((rails, rest)),
+    }
+}
+
+/// The rails at the front of the bytes, where the version names them, and what follows.
+fn rails_at(bytes: &[u8], version: Version) -> Result<(u32, &[u8]), ReportRefusal>
+    ensures { MatchResult result
+        (λ found. AreRails version found.0 × (bytes.now ≡ text_of (rails_lines version found.0) ++ found.1.now))
+        (λ refusal. (later : List Expected) → Stops (rails_expected version ++ later) bytes.now 3 refusal) }
+{
+    match version {
+        Version::One => Ok((ALL_RAILS, bytes)),
+        Version::Two => rails_line(bytes),
     }
 }
 

@@ -1,10 +1,10 @@
 //! Sizes of lattices as words.
-ghost use Rattle.std.specs.Prelude.{◌≡◌, ◌≢◌, ℕ, ◌∷◌, List, [], MatchOption};
+ghost use Rattle.std.specs.Prelude.{◌≡◌, ◌≢◌, ◌∷◌, [], MatchOption};
 ghost use Rattle.lattice_grid.specs.Rectangle.{Size, IsSize};
 ghost use Rattle.report_text.specs.Cells.{size_text};
 ghost use Rattle.report_text.specs.Pieces.{words};
 
-use crate::text::{cut, last_word, number_of, word_at};
+use crate::text::{cut, last_word, number_of};
 use lattice_grid::shape::Shape;
 
 /// The size that a word is, as `2x3`: the numbers of rows and columns, joined by the letter x; None exactly where it is none.
@@ -13,15 +13,6 @@ pub fn read_shape(word: &[u8]) -> Option<Shape>
 {
     let (rows, cols) = cut(word, b'x')?;
     Shape::new(number_of(rows)?, number_of(cols)?)
-}
-
-/// The size that is the first word of a line, and what follows it.
-pub(crate) fn shape_at(line: &[u8]) -> Option<(Shape, &[u8])>
-    ensures { MatchOption result ((size : Size) (w : List ℕ) (ws : List (List ℕ)) → IsSize size → words line.now ≢ size_text size ∷ w ∷ ws)
-        (λ found. IsSize found.0 × (words line.now ≡ size_text found.0 ∷ words found.1.now)) }
-{
-    let (word, rest) = word_at(line);
-    Some((read_shape(word)?, rest?))
 }
 
 /// The size that is the last word of a line.
