@@ -8,7 +8,7 @@ use Rattle.pla_reader.specs.Names.{bytes_of}
 use Rattle.pla_reader.specs.declared.name.Name.{Name}
 use Rattle.report_text.specs.Bounds.{AreNames}
 use Rattle.report_text.specs.Pieces.{words}
-use Rattle.report_text.proofs.HeadingLaws.{pieces-some}
+use Rattle.report_text.proofs.PiecesLaws.{pieces-some}
 
 -- so many names were read, and these words are left
 pub record NamesRead (ws left : List (List ℕ)) (names : List Name) (many : ℕ) : Type 0 where

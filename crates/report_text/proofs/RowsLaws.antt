@@ -1,63 +1,61 @@
--- Rows one after another.
-use Rattle.std.proofs.Common.{◌≡◌, ◌≢◌, ℕ, ◌+◌, ◌<◌, List, [], ◌∷◌, ◌++◌, length, map, refl, sym, ap, ◌∙◌, arith, append_assoc, length-append}
+-- Cells in rows.
+use Rattle.std.proofs.Common.{◌≡◌, ℕ, suc, zero, ◌+◌, ◌*◌, ◌≤◌, List, [], ◌∷◌, ◌++◌, length, take, drop, refl, sym, ap, ◌∙◌, arith, length-append, length-drop}
+use Rattle.std.specs.Prelude.{All}
 use Rattle.std.specs.List.{flat_map}
-use Rattle.std.proofs.lemmas.List.{append-nil}
-use Rattle.std.proofs.lemmas.List.Concat.{flat_map-append}
-use Rattle.std.proofs.lemmas.List.Elements.{All-nil, All-push}
-use Rattle.lattice_grid.specs.declared.control.Control.{Control}
-use Rattle.lattice_grid.specs.Rectangle.{Size, IsSize}
-use Rattle.report_text.specs.Cells.{control_text, row_text, line_text, IsRow}
-use Rattle.report_text.specs.Pieces.{Without, Cuts, words}
-use Rattle.report_text.specs.Block.{StartsWithRows, HasRows, HasOtherRow, LacksRow}
-use Rattle.report_text.proofs.JoinLaws.{row_of_words, words_of_row}
+use Rattle.std.proofs.lemmas.List.{take-append-drop, length-take-le, take_at, drop_at}
+use Rattle.std.proofs.lemmas.List.Elements.{All-nil, All-cons, All-take, All-drop, All-head, All-tail, All-append}
+use Rattle.report_text.specs.Cells.{rows_of}
 
--- so many rows were read, and their cells kept
-pub record RowsRead (size : Size) (bytes : List ℕ) (cells : List Control) (rest : List ℕ) (many : ℕ) : Type 0 where
-  pub rows : List (List Control)
+abbrev pub cells_of : {X : Type 0} → List (List X) → List X
+cells_of rows = flat_map (λ row. row) rows
+
+-- so many rows of so many cells, each of which is such
+pub record AreRows {X : Type 0} (P : X → Type 0) (cols many : ℕ) (rows : List (List X)) : Type 0 where
   pub many_are : length rows ≡ many
-  pub front : StartsWithRows size.cols bytes rows rest
-  pub cells_are : cells ≡ flat_map (λ row. row) rows
+  pub wide : All (λ row. length row ≡ cols) rows
+  pub each : All (All P) rows
 
-pub RowsRead-none : (size : Size) (bytes : List ℕ) (cells : List Control) → cells ≡ [] → RowsRead size bytes cells bytes 0
-RowsRead-none size bytes cells e = record { rows = []; many_are = refl; front = record { each = All-nil (IsRow size.cols); text = refl }; cells_are = e }
+pub length-rows_of : {X : Type 0} (cols many : ℕ) (cells : List X) → length (rows_of cols many cells) ≡ many
+length-rows_of cols zero cells = refl
+length-rows_of cols (suc many) cells = ap suc (length-rows_of cols many (drop cols cells))
 
-pub RowsRead-push : (size : Size) (bytes rest line after : List ℕ) (cells more : List Control) (many : ℕ) → RowsRead size bytes cells rest many → Cuts 10 rest line after → (row : List Control) → IsRow size.cols row
-    → words line ≡ map control_text row → more ≡ cells ++ row → RowsRead size bytes more after (many + 1)
-RowsRead-push size bytes rest line after cells more many h cut row is e grown =
-    let line-is : line ++ 10 ∷ after ≡ line_text row ++ after = ap (λ w. w ++ 10 ∷ after) (row_of_words line row e) ∙ sym (append_assoc (row_text row) (10 ∷ []) after) in
+pub rows_of-are : {X : Type 0} (P : X → Type 0) (cols many : ℕ) (cells : List X) → length cells ≡ many * cols → All P cells → AreRows P cols many (rows_of cols many cells)
+rows_of-are P cols zero cells e h = record { many_are = refl; wide = All-nil _; each = All-nil (All P) }
+rows_of-are P cols (suc many) cells e h =
+    let left : length (drop cols cells) ≡ many * cols = omega (arith, e, length-drop cols cells) in
+    let more = rows_of-are P cols many (drop cols cells) left (All-drop P cols cells h) in
+    let room : cols ≤ length cells = omega (arith, e) in
     record {
-      rows = h.rows ++ row ∷ [];
-      many_are = (let count = h.many_are in omega (arith, length-append h.rows (row ∷ []), count));
-      front = record {
-        each = All-push (IsRow size.cols) h.rows row h.front.each is;
-        text = h.front.text ∙ ap (λ w. flat_map line_text h.rows ++ w) (cut.text ∙ line-is) ∙ sym (append_assoc (flat_map line_text h.rows) (line_text row) after)
-            ∙ ap (λ w. (flat_map line_text h.rows ++ w) ++ after) (sym (append-nil (line_text row))) ∙ ap (λ w. w ++ after) (sym (flat_map-append line_text h.rows (row ∷ [])));
-      };
-      cells_are = grown ∙ ap (λ w. w ++ row) h.cells_are ∙ ap (λ w. flat_map (λ r. r) h.rows ++ w) (sym (append-nil row)) ∙ sym (flat_map-append (λ r. r) h.rows (row ∷ []));
+      many_are = ap suc more.many_are;
+      wide = All-cons (λ row. length row ≡ cols) (take cols cells) (rows_of cols many (drop cols cells)) (length-take-le cols cells room) more.wide;
+      each = All-cons (All P) (take cols cells) (rows_of cols many (drop cols cells)) (All-take P cols cells h) more.each;
     }
 
-pub other_row : (size : Size) (bytes rest line after : List ℕ) (cells : List Control) (many first number : ℕ) → IsSize size → RowsRead size bytes cells rest many → many < size.rows → Cuts 10 rest line after
-    → ((row : List Control) → IsRow size.cols row → words line ≢ map control_text row) → number ≡ first + many → HasOtherRow size bytes first number
-other_row size bytes rest line after cells many first number is h few cut none e = record {
-  rows = h.rows;
-  few = (let count = h.many_are in omega (arith, count, few));
-  line = line;
-  rest = after;
-  front = record { each = h.front.each; text = h.front.text ∙ ap (λ w. flat_map line_text h.rows ++ w) cut.text };
-  one_line = cut.first;
-  other = λ (row, is_row, text). none row is_row (words_of_row size.cols line row is.some_cols is_row text);
-  number_is = e ∙ ap (λ n. first + n) (sym h.many_are);
-}
+none_left : {X : Type 0} (cells : List X) → length cells ≡ 0 → [] ≡ cells
+none_left [] e = refl
+none_left (c ∷ cells) e = absurd (omega (arith, e))
 
-pub lacks_row : (size : Size) (bytes rest : List ℕ) (cells : List Control) (many first number : ℕ) → RowsRead size bytes cells rest many → many < size.rows → Without 10 rest → number ≡ first + many → LacksRow size bytes first number
-lacks_row size bytes rest cells many first number h few none e = record {
-  rows = h.rows;
-  few = (let count = h.many_are in omega (arith, count, few));
-  last = rest;
-  front = h.front;
-  no_feed = none;
-  number_is = e ∙ ap (λ n. first + n) (sym h.many_are);
-}
+pub cells-rows_of : {X : Type 0} (cols many : ℕ) (cells : List X) → length cells ≡ many * cols → cells_of (rows_of cols many cells) ≡ cells
+cells-rows_of cols zero cells e = none_left cells (omega (arith, e))
+cells-rows_of cols (suc many) cells e =
+    let left : length (drop cols cells) ≡ many * cols = omega (arith, e, length-drop cols cells) in
+    ap (λ w. take cols cells ++ w) (cells-rows_of cols many (drop cols cells) left) ∙ take-append-drop cols cells
 
-pub all_rows : (size : Size) (bytes rest : List ℕ) (cells : List Control) (many : ℕ) → RowsRead size bytes cells rest many → many ≡ size.rows → HasRows size bytes cells rest
-all_rows size bytes rest cells many h e = record { rows = h.rows; many = h.many_are ∙ e; front = h.front; cells_are = h.cells_are }
+pub rows_of-cells : {X : Type 0} (cols : ℕ) (rows : List (List X)) → All (λ row. length row ≡ cols) rows → rows_of cols (length rows) (cells_of rows) ≡ rows
+rows_of-cells cols [] h = refl
+rows_of-cells cols (row ∷ rows) h =
+    let wide = All-head (λ r. length r ≡ cols) row rows h in
+    let first = take_at row (cells_of rows) cols wide in
+    let later = ap (rows_of cols (length rows)) (drop_at row (cells_of rows) cols wide) ∙ rows_of-cells cols rows (All-tail (λ r. length r ≡ cols) row rows h) in
+    λ i. first i ∷ later i
+
+pub length-cells : {X : Type 0} (cols : ℕ) (rows : List (List X)) → All (λ row. length row ≡ cols) rows → length (cells_of rows) ≡ length rows * cols
+length-cells cols [] h = omega arith
+length-cells cols (row ∷ rows) h =
+    let one = All-head (λ r. length r ≡ cols) row rows h in
+    let more = length-cells cols rows (All-tail (λ r. length r ≡ cols) row rows h) in
+    omega (arith, length-append row (cells_of rows), one, more)
+
+pub All-cells : {X : Type 0} (P : X → Type 0) (rows : List (List X)) → All (All P) rows → All P (cells_of rows)
+All-cells P [] h = All-nil P
+All-cells P (row ∷ rows) h = All-append P row (cells_of rows) (All-head (All P) row rows h) (All-cells P rows (All-tail (All P) row rows h))

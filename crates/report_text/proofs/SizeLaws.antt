@@ -9,7 +9,7 @@ use Rattle.report_text.specs.Pieces.{Without, Cuts}
 use Rattle.report_text.proofs.PiecesLaws.{same_cut, no_cut}
 use Rattle.report_text.proofs.NumberLaws.{Without-decimal, same_number}
 
-factor_le : (a b m : ℕ) → 1 ≤ b → a * b ≤ m → a ≤ m
+pub factor_le : (a b m : ℕ) → 1 ≤ b → a * b ≤ m → a ≤ m
 factor_le a b m some few = grind arith
 
 pub rows_small : (s : Size) → IsSize s → s.rows < 2 ^ 32

@@ -1,8 +1,8 @@
-pub mod Cells
 pub mod Pieces
+pub mod Cells
+pub mod Form
 pub mod Report
 pub mod Bounds
-pub mod Heading
-pub mod Lines
-pub mod Block
 pub mod Reading
+pub mod Expected
+pub mod Writing

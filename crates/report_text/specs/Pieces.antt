@@ -1,8 +1,8 @@
 -- Bytes cut at a separator.
-use Rattle.std.specs.Prelude.{◌≡◌, ◌≢◌, ℕ, List, [], ◌∷◌, ◌++◌, ◌==◌, if◌then◌else◌, Some, None}
+use Rattle.std.specs.Prelude.{◌≡◌, ◌≢◌, ℕ, suc, List, [], ◌∷◌, ◌++◌, ◌==◌, if◌then◌else◌, Some, None}
 use Rattle.std.specs.declared.option.Option.{Option}
-use Rattle.std.specs.List.{AllByRecursion}
-use Rattle.std.proofs.Common.{Bor}
+use Rattle.std.specs.Borrow.{Bor}
+use Rattle.std.specs.List.{AllByRecursion, slice_split}
 
 -- no byte is this one
 abbrev pub Without : ℕ → List ℕ → Type 0
@@ -13,14 +13,14 @@ pub record Cuts (at : ℕ) (bytes front rest : List ℕ) : Type 0 where
   pub text : bytes ≡ front ++ at ∷ rest
   pub first : Without at front
 
-abbrev pub ahead : ℕ → List (List ℕ) → List (List ℕ)
-ahead b [] = (b ∷ []) ∷ []
-ahead b (piece ∷ pieces) = (b ∷ piece) ∷ pieces
-
 -- the pieces between the separators
 abbrev pub pieces : ℕ → List ℕ → List (List ℕ)
-pieces at [] = [] ∷ []
-pieces at (b ∷ bytes) = if b == at then [] ∷ pieces at bytes else ahead b (pieces at bytes)
+pieces at bytes = slice_split (λ b. b == at) bytes
+
+-- the pieces that are left
+abbrev pub pieces_left : ℕ → Option (Bor (List ℕ)) → List (List ℕ)
+pieces_left at None = []
+pieces_left at (Some rest) = pieces at rest.now
 
 -- the words of a line, separated by single blanks
 abbrev pub words : List ℕ → List (List ℕ)
@@ -28,5 +28,9 @@ words line = pieces 32 line
 
 -- the words that are left
 abbrev pub words_left : Option (Bor (List ℕ)) → List (List ℕ)
-words_left None = []
-words_left (Some rest) = words rest.now
+words_left rest = pieces_left 32 rest
+
+-- the number of line feeds
+abbrev pub feeds : List ℕ → ℕ
+feeds [] = 0
+feeds (b ∷ bytes) = if b == 10 then suc (feeds bytes) else feeds bytes

@@ -1,16 +1,17 @@
 //! Blocks are read.
-ghost use Rattle.std.specs.Prelude.{◌≡◌, ℕ, ◌+◌, ◌*◌, ◌≤◌, ◌++◌, List, All, MatchResult, IfOk, IfErr, IsErrOf, ◌≢◌, ◌⊎◌, Err, length, drop};
+ghost use Rattle.std.specs.Prelude.{◌≡◌, ◌≢◌, ℕ, ◌+◌, ◌*◌, ◌≤◌, ◌++◌, List, All, MatchResult, MatchOption, IfOk, IfErr, IfSome, IsErrOf, ◌⊎◌, Err, length, drop};
 ghost use Rattle.std.specs.Result.{IsOkAnd};
 ghost use Rattle.lattice_grid.specs.Control.{NamesBelow};
-ghost use Rattle.report_text.specs.Cells.{IsRow};
-ghost use Rattle.report_text.specs.Block.{HasRows, IsRowsFault, HasBlock, IsBlockFault};
-ghost use Rattle.report_text.specs.Heading.{parts_of_heading, block_with};
-ghost use Rattle.report_text.specs.declared.block.BlockFault.{BlockFault};
+ghost use Rattle.report_text.specs.Expected.{Expected, HasLattice, HasCells, HasProofs, Stops, refusal_of, rows_expected, cells_expected, proofs_expected, block_expected, answer_with};
+ghost use Rattle.report_text.specs.Form.{lattice_size};
+ghost use Rattle.report_text.specs.Reading.{HasBlock, IsBlockFault};
 ghost use Rattle.report_text.specs.Report.{BlockParts, parts_of_block};
+ghost use Rattle.report_text.specs.declared.block.BlockFault.{BlockFault};
 
-use crate::answer::{Answer, Block};
-use crate::heading::{Heading, Standing, heading_of};
-use crate::row::add_row;
+use crate::answer::{Answer, Block, Proof, Version};
+use crate::form::{Form, lattice_shape};
+use crate::heading::{Heading, heading_of};
+use crate::line::{add_row, proofs_of};
 use crate::text::cut;
 use lattice_grid::control::Control;
 use lattice_grid::grid::Grid;
@@ -25,6 +26,8 @@ pub enum BlockFault {
     Block { line: u32 },
     /// The line is no row of the block's lattice.
     Grid { line: u32 },
+    /// The line does not list the block's proofs.
+    Proofs { line: u32 },
     /// The line has no line feed.
     Truncated { line: u32 },
     /// There was no memory for the block.
@@ -49,7 +52,9 @@ fn rows_at(
     first: u32,
 ) -> Result<(Vec<Control>, &[u8]), BlockFault>
     requires { first ≤ 536870914 }
-    ensures { MatchResult result (λ found. HasRows shape bytes.now found.0.items found.1.now) (λ fault. IsRowsFault shape bytes.now first fault) }
+    ensures { MatchResult result
+        (λ found. HasLattice shape bytes.now found.0.items found.1.now)
+        (λ fault. (later : List Expected) → Stops (rows_expected shape ++ later) bytes.now first (refusal_of fault)) }
 {
     let mut cells = Vec::new(alloc);
     let mut rest = bytes;
@@ -66,33 +71,83 @@ fn rows_at(
     Ok((cells, rest))
 }
 
-/// The block whose first line says this and whose lattice has these cells.
-fn with_cells(heading: Heading, cells: Vec<Control>) -> Block
-    requires many { length cells.items ≡ heading.shape.rows * heading.shape.cols }
-    requires inputs { All (NamesBelow 10) cells.items }
-    ensures { parts_of_block result ≡ block_with (parts_of_heading heading) cells.items }
+/// The cells of the lattice at the front of the bytes, where one is to follow, and what follows it.
+fn cells_at(
+    alloc: Global,
+    shape: Option<Shape>,
+    bytes: &[u8],
+    first: u32,
+) -> Result<(Vec<Control>, &[u8]), BlockFault>
+    requires { first ≤ 536870914 }
+    ensures { MatchResult result
+        (λ found. HasCells shape bytes.now found.0.items found.1.now)
+        (λ fault. (later : List Expected) → Stops (cells_expected shape ++ later) bytes.now first (refusal_of fault)) }
 {
-    let Heading {
-        output,
-        name,
-        shape,
-        standing,
-    } = heading;
-    let grid = Grid::new(shape, cells).unwrap();
-    let answer = match standing {
-        Standing::Found => Answer::Found(grid),
-        Standing::Minimum => Answer::Minimum(grid),
-        Standing::Undecided { least, at, after } => Answer::Undecided {
-            grid,
+    match shape {
+        None => Ok((Vec::new(alloc), bytes)),
+        Some(shape) => rows_at(alloc, shape, bytes, first),
+    }
+}
+
+/// The proofs on the line at the front of the bytes, where they are to follow, and what follows it.
+fn proofs_at(
+    alloc: Global,
+    follow: bool,
+    bytes: &[u8],
+    line: u32,
+) -> Result<(Vec<Proof>, &[u8]), BlockFault>
+    ensures { MatchResult result
+        (λ found. HasProofs follow bytes.now found.0.items found.1.now)
+        (λ fault. (later : List Expected) → Stops (proofs_expected follow ++ later) bytes.now line (refusal_of fault)) }
+{
+    if !follow {
+        return Ok((Vec::new(alloc), bytes));
+    }
+    let Some((text, rest)) = cut(bytes, b'\n') else {
+        return Err(BlockFault::Truncated { line });
+    };
+    match proofs_of(alloc, text)? {
+        None => Err(BlockFault::Proofs { line }),
+        Some(proofs) => Ok((proofs, rest)),
+    }
+}
+
+/// The lattice with these cells, of which there are as many as the shape has.
+fn lattice(shape: Shape, cells: Vec<Control>) -> Grid
+    requires many { length cells.items ≡ shape.rows * shape.cols }
+    requires inputs { All (NamesBelow 10) cells.items }
+    ensures { result ≡ record { size = shape; cells = cells.items } }
+{
+    Grid::new(shape, cells).unwrap()
+}
+
+/// The answer of this form with these cells.
+fn answer_of(form: Form, cells: Vec<Control>) -> Answer
+    requires many { IfSome (lattice_size form) (λ size. length cells.items ≡ size.rows * size.cols) }
+    requires inputs { All (NamesBelow 10) cells.items }
+    ensures { result ≡ answer_with form cells.items }
+{
+    match form {
+        Form::Found(shape) => Answer::Found(lattice(shape, cells)),
+        Form::Minimum(shape) => Answer::Minimum(lattice(shape, cells)),
+        Form::Undecided {
+            shape,
+            least,
+            at,
+            after,
+        } => Answer::Undecided {
+            grid: lattice(shape, cells),
             least,
             at,
             after,
         },
-    };
-    Block {
-        output,
-        name,
-        answer,
+        Form::Mapped(array) => Answer::Mapped {
+            grid: lattice(array.shape(), cells),
+            array,
+        },
+        Form::NoneMapped(array) => Answer::NoneMapped { array },
+        Form::MapUndecided { array, after } => Answer::MapUndecided { array, after },
+        Form::NoRails { on, off } => Answer::NoRails { on, off },
     }
 }
 
@@ -101,40 +156,64 @@ pub(crate) fn block_at(
     alloc: Global,
     bytes: &[u8],
     first: u32,
+    version: Version,
 ) -> Result<(Block, &[u8]), BlockFault>
     requires { first ≤ 536870913 }
-    ensures { MatchResult result (λ found. HasBlock bytes.now (parts_of_block found.0) found.1.now) (λ fault. IsBlockFault bytes.now first fault) }
+    ensures { MatchResult result
+        (λ found. HasBlock version bytes.now (parts_of_block found.0) found.1.now)
+        (λ fault. Stops (block_expected version) bytes.now first (refusal_of fault)) }
 {
     let Some((text, rest)) = cut(bytes, b'\n') else {
         return Err(BlockFault::Truncated { line: first });
     };
-    let Some(heading) = heading_of(alloc, text)? else {
+    let Some(heading) = heading_of(alloc, text, version)? else {
         return Err(BlockFault::Block { line: first });
     };
-    let (cells, rest) = rows_at(alloc, heading.shape, rest, first + 1)?;
-    Ok((with_cells(heading, cells), rest))
+    let Heading { output, name, form } = heading;
+    let (cells, rest) = cells_at(alloc, lattice_shape(&form), rest, first + 1)?;
+    let answer = answer_of(form, cells);
+    let follow = answer.lists_proofs(version);
+    let (proofs, rest) = proofs_at(alloc, follow, rest, first + 1 + answer.rows())?;
+    let block = Block {
+        output,
+        name,
+        answer,
+        proofs,
+    };
+    Ok((block, rest))
 }
 
-/// The block whose lines begin at the place `at`, which is the first of a line or the end, and the place after its
-/// last line feed. The line there has the number `line`: the number of line feeds before it, and one.
+/// The block of a text of this version whose lines begin at the place `at`, which is the first of a line or the end, and
+/// the place after its last line feed. The line there has the number `line`: the number of line feeds before it, and one.
+/// The first faulty line is the refusal.
 pub fn read_block(
     alloc: Global,
     bytes: &[u8],
     at: usize,
     line: u32,
+    version: Version,
 ) -> Result<(Block, usize), BlockFault>
     requires within { at ≤ length bytes.now }
     requires line { line ≤ 536870913 }
     ensures within { IfOk result (λ found. found.1 ≤ length bytes.now) }
-    ensures found { IfOk result (λ found. HasBlock (drop at bytes.now) (parts_of_block found.0) (drop found.1 bytes.now)) }
-    ensures fault { IfErr result (λ fault. IsBlockFault (drop at bytes.now) line fault) }
-    ensures only_block { (block : BlockParts) (rest : List ℕ) → HasBlock (drop at bytes.now) block rest →
+    ensures found { IfOk result (λ found. HasBlock version (drop at bytes.now) (parts_of_block found.0) (drop found.1 bytes.now)) }
+    ensures fault { IfErr result (λ fault. fault ≢ BlockFault.NoMemory → IsBlockFault version (drop at bytes.now) line fault) }
+    ensures only_block { (block : BlockParts) (rest : List ℕ) → HasBlock version (drop at bytes.now) block rest →
         IsErrOf result BlockFault.NoMemory ⊎ IsOkAnd result (λ found. (parts_of_block found.0 ≡ block) × (drop found.1 bytes.now ≡ rest)) }
-    ensures only_fault { (fault : BlockFault) → fault ≢ BlockFault.NoMemory → IsBlockFault (drop at bytes.now) line fault →
+    ensures only_fault { (fault : BlockFault) → IsBlockFault version (drop at bytes.now) line fault →
         IsErrOf result BlockFault.NoMemory ⊎ (result ≡ Err fault) }
 {
-    match block_at(alloc, &bytes[at..], line) {
+    match block_at(alloc, &bytes[at..], line, version) {
         Ok((block, rest)) => Ok((block, bytes.len() - rest.len())),
         Err(fault) => Err(fault),
     }
 }
+
+/// The front of a text, where a block's lines are to stand, gives one answer: a block stands there, or there is one fault.
+pub fn block_or_fault()
+    ensures one_block { (version : Version) (text : List ℕ) (b c : BlockParts) (r s : List ℕ) → HasBlock version text b r → HasBlock version text c s → (b ≡ c) × (r ≡ s) }
+    ensures one_fault { (version : Version) (text : List ℕ) (first : ℕ) (d e : BlockFault) → IsBlockFault version text first d → IsBlockFault version text first e → d ≡ e }
+    ensures not_both { (version : Version) (text : List ℕ) (first : ℕ) (b : BlockParts) (r : List ℕ) (e : BlockFault) → HasBlock version text b r → IsBlockFault version text first e → ⊥ }
+    ensures some { (version : Version) (text : List ℕ) (first : ℕ) →
+        ((b : BlockParts) × (r : List ℕ) × HasBlock version text b r) ⊎ ((e : BlockFault) × IsBlockFault version text first e) }
+{}

@@ -2,10 +2,12 @@
 #![tactic(auto)]
 
 pub mod answer;
+pub mod array;
 pub mod block;
+mod form;
 mod heading;
+mod line;
 pub mod report;
-mod row;
 pub mod shape;
 #[cfg(test)]
 mod tests;

@@ -1,6 +1,0 @@
-use Rattle.report_text.specs.Pieces.{words, words_left}
-use Rattle.report_text.proofs.RowLaws.{HasCells}
-use Rattle.report_text.proofs.row.add_row.Given as goal
-
-abbrev pub invariant-loop-col : goal.invariant-loop-col
-invariant-loop-col l = HasCells (words l.line) (words_left l.rest) l.initial.cells.items l.cells.items l._col
