@@ -1,10 +1,12 @@
 //! Rectangles of cells, each on or off.
 ghost use Rattle.std.specs.Prelude.{◌≡◌, ◌<◌, Bool};
+ghost use Rattle.std.specs.Option.{option_copied, ForSome};
 ghost use Rattle.lattice_grid.specs.declared.shape.Place.{Place};
-ghost use Rattle.lattice_grid.specs.Lattice.{is_on_at};
+ghost use Rattle.path_meaning.specs.Defective.{is_on_in};
 ghost use Rattle.lattice_grid.specs.Rectangle.{Size};
 
 use cube_core::assign::Assign;
+use lattice_grid::array::{Array, Defect};
 use lattice_grid::grid::Grid;
 use lattice_grid::shape::{Place, Shape};
 
@@ -25,23 +27,32 @@ pub trait Cells {
         ensures { result ≡ on self.now p };
 }
 
-/// A lattice at an assignment x.
+/// A lattice at an assignment x, on an array of its shape or on none.
 #[derive(Clone, Copy)]
-pub struct At<'a> {
-    pub grid: &'a Grid,
-    pub x: Assign,
+pub(crate) struct At<'a> {
+    pub(crate) grid: &'a Grid,
+    pub(crate) array: Option<&'a Array>,
+    pub(crate) x: Assign,
+    ghost same: { ForSome (option_copied array) (λ a. a.size ≡ grid.now.size) },
 }
 
 impl Cells for At<'_> {
     ghost size = { λ at. at.grid.now.size };
 
-    ghost on = { λ at. is_on_at at.grid.now at.x };
+    ghost on = { λ at. is_on_in at.grid.now (option_copied at.array) at.x };
 
     fn shape(&self) -> Shape {
         self.grid.shape()
     }
 
     fn is_on(&self, p: Place) -> bool {
-        self.grid.is_on(p, self.x)
+        match self.array {
+            None => self.grid.is_on(p, self.x),
+            Some(array) => match array.at(p) {
+                Defect::Sound => self.grid.is_on(p, self.x),
+                Defect::StuckOpen => false,
+                Defect::StuckClosed => true,
+            },
+        }
     }
 }

@@ -14,7 +14,8 @@ pub fn joins(grid: &Grid, x: Assign, marks: &mut Marks) -> bool
     ensures not_cut { IsTrue result ↔ (Cut grid.now x → ⊥) }
     ensures cells { marks.new ≡ marks.old }
 {
-    marks.leads_down(&At { grid, x })
+    let at = At { grid, array: None, x };
+    marks.leads_down(&at)
 }
 
 /// Whether a path of off-cells over eight-neighbours leads from the left column to the right column. One does exactly
@@ -25,5 +26,6 @@ pub fn cut(grid: &Grid, x: Assign, marks: &mut Marks) -> bool
     ensures not_joined { IsTrue result ↔ (Joined grid.now x → ⊥) }
     ensures cells { marks.new ≡ marks.old }
 {
-    !marks.leads_down(&At { grid, x })
+    let at = At { grid, array: None, x };
+    !marks.leads_down(&at)
 }
