@@ -13,24 +13,22 @@ use Rattle.pla_reader.specs.Names.{bytes_of}
 use Rattle.pla_reader.specs.declared.name.Name.{Name}
 use Rattle.std.proofs.Math.Seq.{take-append_seam, drop-append_seam}
 use Rattle.std.specs.Prelude.{slice_get, Result, Ok, Err, OnOk, IfErr, MatchResult}
+use Rattle.std.specs.Prelude.{IfSome}
 use Rattle.cube_core.specs.Function.{Function}
+use Rattle.lattice_grid.specs.Defects.{Defects}
 use Rattle.lattice_grid.specs.Lattice.{Lattice}
-use Rattle.lattice_grid.specs.Realise.{Realises}
-use Rattle.path_meaning.specs.Failing.{IsLeastFailure, FailsAt}
+use Rattle.lattice_grid.specs.Rails.{IsOverRails}
+use Rattle.path_meaning.specs.Defective.{RealisesIn}
+use Rattle.path_meaning.specs.Failing.{IsLeastFailureIn, FailsIn}
 use Rattle.pla_reader.specs.Parts.{Parts, IsPla}
-use Rattle.report_text.specs.declared.answer.Answer.{Answer}
-use Rattle.report_text.specs.declared.answer.Answer.TheVariants.{Found, Minimum, Undecided}
 use Rattle.report_text.specs.declared.answer.Block.{Block}
-use Rattle.report_text.specs.Reading.{lines_in}
-use Rattle.report_text.specs.Report.{BlockParts, ReportParts, parts_of_block}
-use Rattle.four_lattice.specs.Verified.{lattice_in, least_output, IsOf, IsRight, AreRight, line_after, IsBlockRefused, HasRefusedBlock, IsVerified, IsDenied}
+use Rattle.report_text.specs.declared.answer.Version.{Version}
+use Rattle.report_text.specs.declared.answer.Version.TheVariants.{One, Two}
+use Rattle.report_text.specs.Form.{lattice_of}
+use Rattle.report_text.specs.Report.{BlockParts, ReportParts, parts_of_block, lines_in}
+use Rattle.four_lattice.specs.Verified.{Basis, basis_of, array_in, least_output, IsOf, IsRight, AreRight, first_line, line_after, Shows, IsBlockRefused, HasRefusedBlock, IsVerified, IsDenied}
 use Rattle.four_lattice.specs.declared.verify.VerifyRefusal.{VerifyRefusal}
 use Rattle.four_lattice.specs.declared.verify.VerifyRefusal.TheVariants.{Inputs, Output, Literal, Wrong, NoMemory}
-
-pub lines_in-rows : (answer : Answer) → (lattice_in answer).size.rows + 1 ≡ lines_in answer
-lines_in-rows (Found g) = refl
-lines_in-rows (Minimum g) = refl
-lines_in-rows (Undecided g least at after) = refl
 
 -- a list that is cut at an element
 pub cut_front : {X : Type 0} (xs before rest : List X) (x : X) → xs ≡ before ++ x ∷ rest → take (length before) xs ≡ before
@@ -47,45 +45,49 @@ least_output-push [] block = refl
 least_output-push (first ∷ []) block = refl
 least_output-push (first ∷ next ∷ before) block = least_output-push (next ∷ before) block
 
-line_after-push : (before : List BlockParts) (block : BlockParts) → line_after (before ++ block ∷ []) ≡ line_after before + lines_in block.answer
-line_after-push before block =
-    let sums = sum_by-append (λ b. lines_in b.answer) before (block ∷ []) in
+line_after-push : (version : Version) (before : List BlockParts) (block : BlockParts) → line_after version (before ++ block ∷ []) ≡ line_after version before + lines_in version block
+line_after-push version before block =
+    let sums = sum_by-append (λ b. lines_in version b) before (block ∷ []) in
     omega (arith, sums)
 
 below_or_last : (m k : ℕ) → m < suc k → (m < k) ⊎ (m ≡ k)
 below_or_last m k few = elim (cases_order m k) [ inl e ↦ inr e | inr h ↦ elim h [ inl less ↦ inl less | inr more ↦ absurd (omega (arith, few, more)) ] ]
 
-AreRight-none : (parts : Parts) (blocks : List BlockParts) → AreRight parts blocks 0
-AreRight-none parts blocks before block rest whole few = absurd (omega (arith, few))
+AreRight-none : (basis : Basis) (blocks : List BlockParts) → AreRight basis blocks 0
+AreRight-none basis blocks before block rest whole few = absurd (omega (arith, few))
 
-AreRight-more : (parts : Parts) (blocks : List BlockParts) (k : ℕ) (block : BlockParts) (later : List BlockParts) → AreRight parts blocks k → drop k blocks ≡ block ∷ later
-    → IsRight parts (least_output (take k blocks)) block → AreRight parts blocks (suc k)
-AreRight-more parts blocks k block later right here now before other rest whole few = elim (below_or_last (length before) k few) [
+AreRight-more : (basis : Basis) (blocks : List BlockParts) (k : ℕ) (block : BlockParts) (later : List BlockParts) → AreRight basis blocks k → drop k blocks ≡ block ∷ later
+    → IsRight basis (least_output (take k blocks)) block → AreRight basis blocks (suc k)
+AreRight-more basis blocks k block later right here now before other rest whole few = elim (below_or_last (length before) k few) [
   | inl less ↦ right before other rest whole less
   | inr n_is ↦
       let front : take k blocks ≡ before = ap (λ m. take m blocks) (sym n_is) ∙ cut_front blocks before rest other whole in
       let there : drop k blocks ≡ other ∷ rest = ap (λ m. drop m blocks) (sym n_is) ∙ cut_rest blocks before rest other whole in
       let is : block ≡ other = head_of block other later rest (sym here ∙ there) in
-      subst (λ b. IsRight parts (least_output before) b) is (subst (λ bs. IsRight parts (least_output bs) block) front now)
+      subst (λ b. IsRight basis (least_output before) b) is (subst (λ bs. IsRight basis (least_output bs) block) front now)
 ]
 
+first_few : (version : Version) → first_line version ≤ 4
+first_few One = omega arith
+first_few Two = omega arith
+
 -- The first k blocks are tested; the next output is at least this one, and the next block begins on this line.
-pub record IsTested (parts : Parts) (blocks : List Block) (k least line : ℕ) : Type 0 where
-  pub right : AreRight parts (map parts_of_block blocks) k
+pub record IsTested (basis : Basis) (blocks : List Block) (k least line : ℕ) : Type 0 where
+  pub right : AreRight basis (map parts_of_block blocks) k
   pub least_is : least ≡ least_output (take k (map parts_of_block blocks))
-  pub line_is : line ≡ line_after (take k (map parts_of_block blocks))
+  pub line_is : line ≡ line_after basis.version (take k (map parts_of_block blocks))
   pub few : k ≤ least
   pub low : least ≤ 64
-  pub lines : line ≤ least * 1048577 + 3
+  pub lines : line ≤ least * 1048578 + 4
 
-pub IsTested-none : (parts : Parts) (blocks : List Block) → IsTested parts blocks 0 0 3
-IsTested-none parts blocks = record {
-  right = AreRight-none parts (map parts_of_block blocks);
+pub IsTested-none : (basis : Basis) (blocks : List Block) → IsTested basis blocks 0 0 (first_line basis.version)
+IsTested-none basis blocks = let early = first_few basis.version in record {
+  right = AreRight-none basis (map parts_of_block blocks);
   least_is = refl;
   line_is = refl;
   few = omega arith;
   low = omega arith;
-  lines = omega arith;
+  lines = omega (arith, early);
 }
 
 -- the block at a place, in the list without where it lies
@@ -101,38 +103,38 @@ front_at blocks k block within is =
     ∙ ap (λ b. map parts_of_block (take k blocks) ++ parts_of_block b ∷ []) (sym is)
     ∙ ap (λ bs. bs ++ parts_of_block block ∷ []) (sym (take-map parts_of_block k blocks))
 
-pub output_low : (parts : Parts) (least : ℕ) (block : BlockParts) → IsPla parts → IsRight parts least block → block.output < 64
-output_low parts least block pla right =
-    let within = slice_get_within parts.functions block.output right.function right.of_output.function in
+pub output_low : (basis : Basis) (least : ℕ) (block : BlockParts) → IsPla basis.parts → IsRight basis least block → block.output < 64
+output_low basis least block pla right =
+    let within = slice_get_within basis.parts.functions block.output right.function right.of_output.function in
     let many = pla.functions in
     let few = pla.few_outputs in
     omega (arith, within, many, few)
 
-pub IsTested-more : (parts : Parts) (blocks : List Block) (k least line lines : ℕ) (block : Block) → k < length blocks → block ≡ get_or blocks k block → IsPla parts
-    → IsTested parts blocks k least line → IsRight parts least (parts_of_block block) → lines ≡ lines_in block.answer → lines ≤ 1048577
-    → IsTested parts blocks (k + 1) (block.output + 1) (line + lines)
-IsTested-more parts blocks k least line lines block within is pla h right lines_are short =
+pub IsTested-more : (basis : Basis) (blocks : List Block) (k least line lines : ℕ) (block : Block) → k < length blocks → block ≡ get_or blocks k block → IsPla basis.parts
+    → IsTested basis blocks k least line → IsRight basis least (parts_of_block block) → lines ≡ lines_in basis.version (parts_of_block block) → lines ≤ 1048578
+    → IsTested basis blocks (k + 1) (block.output + 1) (line + lines)
+IsTested-more basis blocks k least line lines block within is pla h right lines_are short =
     let all = map parts_of_block blocks in
     let front = front_at blocks k block within is in
     let later = right.of_output.later in
-    let low = output_low parts least (parts_of_block block) pla right in
+    let low = output_low basis least (parts_of_block block) pla right in
     let few = h.few in
     let at = h.line_is in
     let bound = h.lines in
-    let push = line_after-push (take k all) (parts_of_block block) in
+    let push = line_after-push basis.version (take k all) (parts_of_block block) in
     record {
-      right = subst (AreRight parts all) (sym (add-one k)) (AreRight-more parts all k (parts_of_block block) (map parts_of_block (drop (suc k) blocks)) h.right (parts_at blocks k block within is)
-          (subst (λ n. IsRight parts n (parts_of_block block)) h.least_is right));
+      right = subst (AreRight basis all) (sym (add-one k)) (AreRight-more basis all k (parts_of_block block) (map parts_of_block (drop (suc k) blocks)) h.right (parts_at blocks k block within is)
+          (subst (λ n. IsRight basis n (parts_of_block block)) h.least_is right));
       least_is = sym (ap least_output front ∙ least_output-push (take k all) (parts_of_block block) ∙ sym (add-one block.output));
-      line_is = sym (ap line_after front ∙ push ∙ sym (ap (λ n. n + lines) at ∙ ap (λ n. line_after (take k all) + n) lines_are));
+      line_is = sym (ap (line_after basis.version) front ∙ push ∙ sym (ap (λ n. n + lines) at ∙ ap (λ n. line_after basis.version (take k all) + n) lines_are));
       few = omega (arith, later, few);
       low = omega (arith, low);
       lines = omega (arith, later, bound, short);
     }
 
-pub refused_at : (parts : Parts) (blocks : List Block) (k least line : ℕ) (block : Block) (refusal : VerifyRefusal) → k < length blocks → block ≡ get_or blocks k block
-    → IsTested parts blocks k least line → IsBlockRefused parts least line (parts_of_block block) refusal → HasRefusedBlock parts (map parts_of_block blocks) refusal
-refused_at parts blocks k least line block refusal within is h refused =
+pub refused_at : (basis : Basis) (blocks : List Block) (k least line : ℕ) (block : Block) (refusal : VerifyRefusal) → k < length blocks → block ≡ get_or blocks k block
+    → IsTested basis blocks k least line → IsBlockRefused basis least line (parts_of_block block) refusal → HasRefusedBlock basis (map parts_of_block blocks) refusal
+refused_at basis blocks k least line block refusal within is h refused =
     let all = map parts_of_block blocks in
     let long : length (take k all) ≡ k = let a = length-take k all in let b = length-map blocks parts_of_block in omega (arith, a, b, within) in
     record {
@@ -140,72 +142,88 @@ refused_at parts blocks k least line block refusal within is h refused =
       block = parts_of_block block;
       rest = map parts_of_block (drop (suc k) blocks);
       whole = sym (take-append-drop k all) ∙ ap (λ bs. take k all ++ bs) (parts_at blocks k block within is);
-      earlier = subst (AreRight parts all) (sym long) h.right;
-      refused = subst (λ n. IsBlockRefused parts n (line_after (take k all)) (parts_of_block block) refusal) h.least_is
-          (subst (λ n. IsBlockRefused parts least n (parts_of_block block) refusal) h.line_is refused);
+      earlier = subst (AreRight basis all) (sym long) h.right;
+      refused = subst (λ n. IsBlockRefused basis n (line_after basis.version (take k all)) (parts_of_block block) refusal) h.least_is
+          (subst (λ n. IsBlockRefused basis least n (parts_of_block block) refusal) h.line_is refused);
     }
 
 -- the function of a block is one alone
-one_function : (parts : Parts) (least : ℕ) (block : BlockParts) (f g : Function) → IsOf parts least block f → IsOf parts least block g → f ≡ g
-one_function parts least block f g a b =
+one_function : (basis : Basis) (least : ℕ) (block : BlockParts) (f g : Function) → IsOf basis.parts least block f → IsOf basis.parts least block g → f ≡ g
+one_function basis least block f g a b =
     let p = a.function in
     let q = b.function in
     cc
 
-no_failure : (g : Lattice) (f : Function) (x : ℕ) → Realises g f → FailsAt g f x → ⊥
-no_failure g f x r fails = elim fails [ inl h ↦ h.1 (r.on x h.0) | inr h ↦ r.off x h.0 h.1 ]
+no_failure : (g : Lattice) (array : Option Defects) (f : Function) (x : ℕ) → RealisesIn g f array → FailsIn g array f x → ⊥
+no_failure g array f x r fails = elim fails [ inl h ↦ h.1 (r.on x h.0) | inr h ↦ r.off x h.0 h.1 ]
+
+-- what is said of the lattice of a block
+of_lattice : (o : Option Lattice) (g : Lattice) (P : Lattice → Type 0) → o ≡ Some g → IfSome o P → P g
+of_lattice o g P e h = subst (λ z. IfSome z P) e h
+
+one_lattice : (o : Option Lattice) (g h : Lattice) → o ≡ Some g → o ≡ Some h → g ≡ h
+one_lattice o g h p q = cc
 
 -- a block is not both right and refused
-not_both : (parts : Parts) (least line : ℕ) (block : BlockParts) (refusal : VerifyRefusal) → IsRight parts least block → IsBlockRefused parts least line block refusal → ⊥
-not_both parts least line block (Inputs at) right refused = refused
-not_both parts least line block (Output at) right refused = refused.1 right.function right.of_output
-not_both parts least line block (Literal at) right refused = refused.2 right.over
-not_both parts least line block (Wrong at x) right refused =
-    let same = one_function parts least block right.function refused.1.0 right.of_output refused.1.1 in
-    no_failure (lattice_in block.answer) refused.1.0 x (subst (Realises (lattice_in block.answer)) same right.realises) refused.1.2.fails
-not_both parts least line block NoMemory right refused = refused
+not_both : (basis : Basis) (least line : ℕ) (block : BlockParts) (refusal : VerifyRefusal) → IsRight basis least block → IsBlockRefused basis least line block refusal → ⊥
+not_both basis least line block (Inputs at) right refused = refused
+not_both basis least line block (Output at) right refused = refused.1 right.function right.of_output
+not_both basis least line block (Literal at) right refused =
+    refused.4 (of_lattice (lattice_of block.answer) refused.1 (IsOverRails basis.parts.inputs basis.rails) refused.3.lattice right.over)
+not_both basis least line block (Wrong at x) right refused =
+    let same = one_function basis least block right.function refused.2 right.of_output refused.3.of_output in
+    no_failure refused.1 (array_in block.answer) refused.2 x
+    (subst (λ f. RealisesIn refused.1 f (array_in block.answer)) same
+    (of_lattice (lattice_of block.answer) refused.1 (λ g. RealisesIn g right.function (array_in block.answer)) refused.3.lattice right.realises)) refused.5.fails
+not_both basis least line block NoMemory right refused = refused
 
-one_least : (g : Lattice) (f : Function) (x y : ℕ) → IsLeastFailure g f x → IsLeastFailure g f y → x ≡ y
-one_least g f x y a b = elim (cases_order x y) [
+one_least : (g : Lattice) (array : Option Defects) (f : Function) (x y : ℕ) → IsLeastFailureIn g array f x → IsLeastFailureIn g array f y → x ≡ y
+one_least g array f x y a b = elim (cases_order x y) [
   | inl same ↦ same
   | inr other ↦ elim other [ inl less ↦ absurd (b.least x less a.fails) | inr more ↦ absurd (a.least y more b.fails) ]
 ]
 
 -- a block has one refusal
-one_block_refusal : (parts : Parts) (least line : ℕ) (block : BlockParts) (a b : VerifyRefusal) → IsBlockRefused parts least line block a → IsBlockRefused parts least line block b → a ≡ b
-one_block_refusal parts least line block (Inputs at) b p q = absurd p
-one_block_refusal parts least line block NoMemory b p q = absurd p
-one_block_refusal parts least line block (Output at) (Inputs other) p q = absurd q
-one_block_refusal parts least line block (Output at) NoMemory p q = absurd q
-one_block_refusal parts least line block (Output at) (Output other) p q = ap Output (p.0 ∙ sym q.0)
-one_block_refusal parts least line block (Output at) (Literal other) p q = absurd (p.1 q.1.0 q.1.1)
-one_block_refusal parts least line block (Output at) (Wrong other x) p q = absurd (p.1 q.1.0 q.1.1)
-one_block_refusal parts least line block (Literal at) (Inputs other) p q = absurd q
-one_block_refusal parts least line block (Literal at) NoMemory p q = absurd q
-one_block_refusal parts least line block (Literal at) (Output other) p q = absurd (q.1 p.1.0 p.1.1)
-one_block_refusal parts least line block (Literal at) (Literal other) p q = ap Literal (p.0 ∙ sym q.0)
-one_block_refusal parts least line block (Literal at) (Wrong other x) p q = absurd (p.2 q.2)
-one_block_refusal parts least line block (Wrong at x) (Inputs other) p q = absurd q
-one_block_refusal parts least line block (Wrong at x) NoMemory p q = absurd q
-one_block_refusal parts least line block (Wrong at x) (Output other) p q = absurd (q.1 p.1.0 p.1.1)
-one_block_refusal parts least line block (Wrong at x) (Literal other) p q = absurd (q.2 p.2)
-one_block_refusal parts least line block (Wrong at x) (Wrong other y) p q =
-    let same = one_function parts least block q.1.0 p.1.0 q.1.1 p.1.1 in
-    let assign = one_least (lattice_in block.answer) p.1.0 x y p.1.2 (subst (λ f. IsLeastFailure (lattice_in block.answer) f y) same q.1.2) in
+one_block_refusal : (basis : Basis) (least line : ℕ) (block : BlockParts) (a b : VerifyRefusal) → IsBlockRefused basis least line block a → IsBlockRefused basis least line block b → a ≡ b
+one_block_refusal basis least line block (Inputs at) b p q = absurd p
+one_block_refusal basis least line block NoMemory b p q = absurd p
+one_block_refusal basis least line block (Output at) (Inputs other) p q = absurd q
+one_block_refusal basis least line block (Output at) NoMemory p q = absurd q
+one_block_refusal basis least line block (Output at) (Output other) p q = ap Output (p.0 ∙ sym q.0)
+one_block_refusal basis least line block (Output at) (Literal other) p q = absurd (p.1 q.2 q.3.of_output)
+one_block_refusal basis least line block (Output at) (Wrong other x) p q = absurd (p.1 q.2 q.3.of_output)
+one_block_refusal basis least line block (Literal at) (Inputs other) p q = absurd q
+one_block_refusal basis least line block (Literal at) NoMemory p q = absurd q
+one_block_refusal basis least line block (Literal at) (Output other) p q = absurd (q.1 p.2 p.3.of_output)
+one_block_refusal basis least line block (Literal at) (Literal other) p q = ap Literal (p.0 ∙ sym q.0)
+one_block_refusal basis least line block (Literal at) (Wrong other x) p q =
+    let same = one_lattice (lattice_of block.answer) q.1 p.1 q.3.lattice p.3.lattice in
+    absurd (p.4 (subst (IsOverRails basis.parts.inputs basis.rails) same q.4))
+one_block_refusal basis least line block (Wrong at x) (Inputs other) p q = absurd q
+one_block_refusal basis least line block (Wrong at x) NoMemory p q = absurd q
+one_block_refusal basis least line block (Wrong at x) (Output other) p q = absurd (q.1 p.2 p.3.of_output)
+one_block_refusal basis least line block (Wrong at x) (Literal other) p q =
+    let same = one_lattice (lattice_of block.answer) p.1 q.1 p.3.lattice q.3.lattice in
+    absurd (q.4 (subst (IsOverRails basis.parts.inputs basis.rails) same p.4))
+one_block_refusal basis least line block (Wrong at x) (Wrong other y) p q =
+    let same = one_function basis least block q.2 p.2 q.3.of_output p.3.of_output in
+    let lattice = one_lattice (lattice_of block.answer) q.1 p.1 q.3.lattice p.3.lattice in
+    let assign = one_least p.1 (array_in block.answer) p.2 x y p.5
+        (subst (λ g. IsLeastFailureIn g (array_in block.answer) p.2 y) lattice (subst (λ f. IsLeastFailureIn q.1 (array_in block.answer) f y) same q.5)) in
     ap (λ l. Wrong l x) (p.0 ∙ sym q.0) ∙ ap (Wrong other) assign
 
 -- the first refused block is one alone
-one_refused_block : (parts : Parts) (blocks : List BlockParts) (a b : VerifyRefusal) → HasRefusedBlock parts blocks a → HasRefusedBlock parts blocks b → a ≡ b
-one_refused_block parts blocks a b p q = elim (cases_order (length p.before) (length q.before)) [
+one_refused_block : (basis : Basis) (blocks : List BlockParts) (a b : VerifyRefusal) → HasRefusedBlock basis blocks a → HasRefusedBlock basis blocks b → a ≡ b
+one_refused_block basis blocks a b p q = elim (cases_order (length p.before) (length q.before)) [
   | inl same ↦
       let fronts : p.before ≡ q.before = sym (cut_front blocks p.before p.rest p.block p.whole) ∙ ap (λ n. take n blocks) same ∙ cut_front blocks q.before q.rest q.block q.whole in
       let tails : p.block ∷ p.rest ≡ q.block ∷ q.rest = sym (cut_rest blocks p.before p.rest p.block p.whole) ∙ ap (λ n. drop n blocks) same ∙ cut_rest blocks q.before q.rest q.block q.whole in
       let is = head_of p.block q.block p.rest q.rest tails in
-      one_block_refusal parts (least_output q.before) (line_after q.before) q.block a b
-      (subst (λ l. IsBlockRefused parts (least_output l) (line_after l) q.block a) fronts (subst (λ l. IsBlockRefused parts (least_output p.before) (line_after p.before) l a) is p.refused)) q.refused
+      one_block_refusal basis (least_output q.before) (line_after basis.version q.before) q.block a b
+      (subst (λ l. IsBlockRefused basis (least_output l) (line_after basis.version l) q.block a) fronts (subst (λ l. IsBlockRefused basis (least_output p.before) (line_after basis.version p.before) l a) is p.refused)) q.refused
   | inr other ↦ elim other [
-    | inl less ↦ absurd (not_both parts (least_output p.before) (line_after p.before) p.block a (q.earlier p.before p.block p.rest p.whole less) p.refused)
-    | inr more ↦ absurd (not_both parts (least_output q.before) (line_after q.before) q.block b (p.earlier q.before q.block q.rest q.whole more) q.refused)
+    | inl less ↦ absurd (not_both basis (least_output p.before) (line_after basis.version p.before) p.block a (q.earlier p.before p.block p.rest p.whole less) p.refused)
+    | inr more ↦ absurd (not_both basis (least_output q.before) (line_after basis.version q.before) q.block b (p.earlier q.before q.block q.rest q.whole more) q.refused)
   ]
 ]
 
@@ -220,7 +238,7 @@ within_whole xs before rest x e =
 pub one_denial : (parts : Parts) (report : ReportParts) (a b : VerifyRefusal) → IsDenied parts report a → IsDenied parts report b → a ≡ b
 one_denial parts report a b p q = elim p [
   | inl h ↦ elim q [ inl k ↦ h.1 ∙ sym k.1 | inr k ↦ absurd (h.0 k.0) ]
-  | inr h ↦ elim q [ inl k ↦ absurd (k.0 h.0) | inr k ↦ one_refused_block parts report.blocks a b h.1 k.1 ]
+  | inr h ↦ elim q [ inl k ↦ absurd (k.0 h.0) | inr k ↦ one_refused_block (basis_of parts report) report.blocks a b h.1 k.1 ]
 ]
 
 -- a report that verifies has no refusal
@@ -229,7 +247,7 @@ no_denial parts report refusal v d = elim d [
   | inl h ↦ h.0 v.names
   | inr h ↦
       let block = h.1 in
-      not_both parts (least_output block.before) (line_after block.before) block.block refusal
+      not_both (basis_of parts report) (least_output block.before) (line_after report.version block.before) block.block refusal
       (v.blocks block.before block.block block.rest block.whole (within_whole report.blocks block.before block.rest block.block block.whole)) block.refused
 ]
 
@@ -292,9 +310,9 @@ only_denial (Err other) parts report verified refused refusal denied = elim (is_
 ]
 
 -- the blocks of a report, seen without where they lie
-pub AreRight-all : (parts : Parts) (blocks items : List Block) → blocks ≡ items → AreRight parts (map parts_of_block blocks) (length blocks) → AreRight parts (map parts_of_block items) (length (map parts_of_block items))
-AreRight-all parts blocks items same right =
-    subst (AreRight parts (map parts_of_block items)) (sym (length-map items parts_of_block)) (subst (λ bs. AreRight parts (map parts_of_block bs) (length bs)) same right)
+pub AreRight-all : (basis : Basis) (blocks items : List Block) → blocks ≡ items → AreRight basis (map parts_of_block blocks) (length blocks) → AreRight basis (map parts_of_block items) (length (map parts_of_block items))
+AreRight-all basis blocks items same right =
+    subst (AreRight basis (map parts_of_block items)) (sym (length-map items parts_of_block)) (subst (λ bs. AreRight basis (map parts_of_block bs) (length bs)) same right)
 
 not_false : (x : Bool) → not x ≡ false → x ≡ true
 not_false true e = refl

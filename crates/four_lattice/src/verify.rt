@@ -3,9 +3,15 @@ ghost use Rattle.std.specs.Prelude.{◌≡◌, ◌≢◌, ℕ, ◌+◌, ◌*◌,
 ghost use Rattle.cube_core.specs.Function.{Function};
 ghost use Rattle.pla_reader.specs.Names.{bytes_of};
 ghost use Rattle.pla_reader.specs.Parts.{Parts, parts_of, IsPla};
-ghost use Rattle.report_text.specs.Reading.{lines_in};
+ghost use Rattle.std.specs.Prelude.{All};
+ghost use Rattle.std.specs.Option.{option_copied};
+ghost use Rattle.lattice_grid.specs.Rails.{IsOverRails};
+ghost use Rattle.path_meaning.specs.Defective.{RealisesIn};
+ghost use Rattle.report_text.specs.Bounds.{IsAnswer, IsBlock, IsReport};
+ghost use Rattle.report_text.specs.Form.{lattice_of};
 ghost use Rattle.report_text.specs.Report.{parts_of_block, parts_of_report};
-ghost use Rattle.four_lattice.specs.Verified.{lattice_in, IsOf, IsRight, AreRight, IsBlockRefused, HasRefusedBlock, IsVerified, IsDenied};
+ghost use Rattle.report_text.specs.declared.answer.Version.{Version};
+ghost use Rattle.four_lattice.specs.Verified.{array_in, first_line, IsOf, IsRight, AreRight, IsLatticeRefused, IsBlockRefused, HasRefusedBlock, IsVerified, IsDenied};
 ghost use Rattle.wire_io.specs.Causes.{HasCause};
 ghost use Rattle.wire_io.specs.Told.{Gains, GainsFront};
 ghost use Rattle.four_lattice.specs.Devices.{change, EndsTest};
@@ -19,19 +25,17 @@ use crate::inputs::{input_pla, input_report};
 use cube_core::assign::Assign;
 use cube_core::spec::Spec;
 use itoa::Buffer;
-use lattice_grid::grid::Grid;
+use lattice_grid::array::Array;
+use lattice_grid::rails::Rails;
 use path_meaning::marks::Marks;
-use path_meaning::realise::realises;
+use path_meaning::realise::realises_in;
 use pla_reader::name::Name;
 use pla_reader::pla::Pla;
-use report_text::answer::{Answer, Block, Report};
+use report_text::answer::{Answer, Block, Report, Version};
 use std::alloc::Global;
 use wire_io::fault::{Failed, NoMemory as OutOfMemory};
 use wire_io::sink::{Sink, write_pieces};
 use wire_io::source::Source;
-
-/// The number of the line on which the first block of a report begins.
-const FIRST_BLOCK_LINE: u32 = 3;
 
 /// Why a report does not verify: the first of these, with the line of the names, or on which its block begins.
 #[derive(Clone, Copy, Debug, PartialEq, Eq)]
@@ -40,7 +44,7 @@ pub enum VerifyRefusal {
     Inputs { line: u32 },
     /// The block has not the number and the name of an output, or does not come after the one before.
     Output { line: u32 },
-    /// The lattice names an input that the PLA has not.
+    /// The lattice has a literal of an input that the PLA has not, or one that is not allowed.
     Literal { line: u32 },
     /// The lattice does not realise the output; this is the least assignment at which it fails.
     Wrong { line: u32, assign: Assign },
@@ -58,21 +62,39 @@ impl From<OutOfMemory> for VerifyRefusal {
     }
 }
 
-/// The lattice of an answer.
-fn lattice_of(answer: &Answer) -> &Grid
-    ensures { result.now ≡ lattice_in answer.now }
+/// The array that the lattice of an answer stands on.
+fn array_of(answer: &Answer) -> Option<&Array>
+    ensures { option_copied result ≡ array_in answer.now }
 {
     match answer {
-        Answer::Found(grid) | Answer::Minimum(grid) | Answer::Undecided { grid, .. } => grid,
+        Answer::Mapped { array, .. } => Some(array),
+        Answer::Found(_)
+        | Answer::Minimum(_)
+        | Answer::Undecided { .. }
+        | Answer::NoneMapped { .. }
+        | Answer::MapUndecided { .. }
+        | Answer::NoRails { .. } => None,
     }
 }
 
-/// How many lines a block has: one, and one for each row.
-fn lines_of(answer: &Answer) -> u32
-    ensures same { result ≡ lines_in answer.now }
-    ensures few { result ≤ 1048577 }
+/// The number of the line on which the first block of a report begins.
+fn line_of_first(version: Version) -> u32
+    ensures { result ≡ first_line version }
 {
-    lattice_of(answer).shape().rows() + 1
+    match version {
+        Version::One => 3,
+        Version::Two => 4,
+    }
+}
+
+/// How many cells an answer's lattice has; none where it has no lattice.
+fn cells_of(answer: &Answer) -> u32
+    ensures { IfSome (lattice_of answer.now) (λ g. g.size.rows * g.size.cols ≤ result) }
+{
+    match answer.grid() {
+        None => 0,
+        Some(grid) => grid.shape().area(),
+    }
 }
 
 /// Marks for so many cells, the old ones where they suffice.
@@ -105,50 +127,82 @@ fn function_of<'a>(pla: &'a Pla, block: &Block, least: u32) -> Option<&'a Spec>
     }
 }
 
-/// Tests the block that begins at a line.
-fn test_block(
-    pla: &Pla,
-    block: &Block,
-    least: u32,
+/// Tests the lattice of a block, where it has one, against the function of its output.
+fn test_lattice(
+    spec: &Spec,
+    inputs: u8,
+    rails: Rails,
+    answer: &Answer,
     line: u32,
     marks: &mut Marks,
 ) -> Result<(), VerifyRefusal>
-    requires room { (lattice_in block.now.answer).size.rows * (lattice_in block.now.answer).size.cols ≤ marks.old }
-    ensures right { OnOk result (IsRight (parts_of pla.now) least (parts_of_block block.now)) }
-    ensures refused { IfErr result (IsBlockRefused (parts_of pla.now) least line (parts_of_block block.now)) }
+    requires few { inputs ≤ 10 }
+    requires answer { IsAnswer answer.now }
+    requires room { IfSome (lattice_of answer.now) (λ g. g.size.rows * g.size.cols ≤ marks.old) }
+    ensures over { OnOk result (IfSome (lattice_of answer.now) (IsOverRails inputs rails)) }
+    ensures realises { OnOk result (IfSome (lattice_of answer.now) (λ g. RealisesIn g spec.now (array_in answer.now))) }
+    ensures refused { IfErr result (IsLatticeRefused inputs rails line answer.now spec.now) }
     ensures kept { marks.new ≡ marks.old }
 {
-    let Some(spec) = function_of(pla, block, least) else {
-        return Err(VerifyRefusal::Output { line });
+    let Some(grid) = answer.grid() else {
+        return Ok(());
     };
-    let grid = lattice_of(&block.answer);
-    if !grid.names_below(pla.inputs) {
+    if !grid.allowed(inputs, rails) {
         return Err(VerifyRefusal::Literal { line });
     }
-    match realises(spec, grid, marks) {
+    match realises_in(spec, grid, array_of(answer), marks) {
         Ok(()) => Ok(()),
         Err(assign) => Err(VerifyRefusal::Wrong { line, assign }),
     }
 }
 
-/// Tests each block after those before it.
-fn test_blocks(alloc: Global, pla: &Pla, blocks: &[Block]) -> Result<(), VerifyRefusal>
-    requires { IsPla (parts_of pla.now) }
-    ensures right { OnOk result (AreRight (parts_of pla.now) (map parts_of_block blocks.now) (length blocks.now)) }
+/// Tests the block that begins at a line.
+fn test_block(
+    pla: &Pla,
+    rails: Rails,
+    block: &Block,
+    least: u32,
+    line: u32,
+    marks: &mut Marks,
+) -> Result<(), VerifyRefusal>
+    requires pla { IsPla (parts_of pla.now) }
+    requires answer { IsAnswer block.now.answer }
+    requires room { IfSome (lattice_of block.now.answer) (λ g. g.size.rows * g.size.cols ≤ marks.old) }
+    ensures right { OnOk result ((version : Version) → IsRight (record { parts = parts_of pla.now; version = version; rails = rails }) least (parts_of_block block.now)) }
+    ensures refused { IfErr result (λ refusal. (version : Version) → IsBlockRefused (record { parts = parts_of pla.now; version = version; rails = rails }) least line (parts_of_block block.now) refusal) }
+    ensures kept { marks.new ≡ marks.old }
+{
+    let Some(spec) = function_of(pla, block, least) else {
+        return Err(VerifyRefusal::Output { line });
+    };
+    test_lattice(spec, pla.inputs, rails, &block.answer, line, marks)
+}
+
+/// Tests each block after those before it, in a text of this version.
+fn test_blocks(
+    alloc: Global,
+    pla: &Pla,
+    version: Version,
+    rails: Rails,
+    blocks: &[Block],
+) -> Result<(), VerifyRefusal>
+    requires pla { IsPla (parts_of pla.now) }
+    requires blocks { All (IsBlock version) (map parts_of_block blocks.now) }
+    ensures right { OnOk result (AreRight (record { parts = parts_of pla.now; version = version; rails = rails }) (map parts_of_block blocks.now) (length blocks.now)) }
     ensures few { OnOk result (length blocks.now ≤ 64) }
     ensures refused { IfErr result (λ refusal. refusal ≢ VerifyRefusal.NoMemory →
-        HasRefusedBlock (parts_of pla.now) (map parts_of_block blocks.now) refusal) }
+        HasRefusedBlock (record { parts = parts_of pla.now; version = version; rails = rails }) (map parts_of_block blocks.now) refusal) }
 {
     let mut marks = Marks::new(alloc, 1)?;
     let mut least = 0;
-    let mut line = FIRST_BLOCK_LINE;
+    let mut line = line_of_first(version);
     for block in blocks {
-        marks = marks_for(alloc, marks, lattice_of(&block.answer).shape().area())?;
-        if let Err(refusal) = test_block(pla, block, least, line, &mut marks) {
+        marks = marks_for(alloc, marks, cells_of(&block.answer))?;
+        if let Err(refusal) = test_block(pla, rails, block, least, line, &mut marks) {
             return Err(refusal);
         }
         least = block.output + 1;
-        line += lines_of(&block.answer);
+        line += block.lines(version);
     }
     Ok(())
 }
@@ -170,7 +224,8 @@ fn are_same_names(names: &[Name], others: &[Name]) -> bool
 
 /// Tests a report.
 fn test_report(alloc: Global, pla: &Pla, report: &Report) -> Result<u32, VerifyRefusal>
-    requires { IsPla (parts_of pla.now) }
+    requires pla { IsPla (parts_of pla.now) }
+    requires report { IsReport (parts_of_report report.now) }
     ensures many { IfOk result (λ many. many ≡ length report.now.blocks.items) }
     ensures verified { OnOk result (IsVerified (parts_of pla.now) (parts_of_report report.now)) }
     ensures refused { IfErr result (λ refusal. refusal ≢ VerifyRefusal.NoMemory → IsDenied (parts_of pla.now) (parts_of_report report.now) refusal) }
@@ -178,14 +233,16 @@ fn test_report(alloc: Global, pla: &Pla, report: &Report) -> Result<u32, VerifyR
     if !are_same_names(&report.input_names, pla.input_names.as_slice()) {
         return Err(VerifyRefusal::Inputs { line: 2 });
     }
-    test_blocks(alloc, pla, &report.blocks)?;
+    let rails = Rails::new(report.rails).unwrap();
+    test_blocks(alloc, pla, report.version, rails, &report.blocks)?;
     Ok(report.blocks.len() as u32)
 }
 
-/// The number of blocks of a report whose names are the PLA's and each lattice of which realises its output, or why it
-/// is refused, at the first block that fails.
+/// The number of blocks of a report whose names are the PLA's and each lattice of which is of allowed literals and realises
+/// its output, on its array where it has one; or why it is refused, at the first block that fails.
 pub fn verify(alloc: Global, pla: &Pla, report: &Report) -> Result<u32, VerifyRefusal>
-    requires { IsPla (parts_of pla.now) }
+    requires pla { IsPla (parts_of pla.now) }
+    requires report { IsReport (parts_of_report report.now) }
     ensures many { IfOk result (λ many. many ≡ length report.now.blocks.items) }
     ensures verified { OnOk result (IsVerified (parts_of pla.now) (parts_of_report report.now)) }
     ensures refused { IfErr result (λ refusal. refusal ≢ VerifyRefusal.NoMemory → IsDenied (parts_of pla.now) (parts_of_report report.now) refusal) }
@@ -210,7 +267,8 @@ fn ending_of_denial(refusal: VerifyRefusal) -> Ending
 
 /// Tests a report against a PLA: the number of its blocks where it verifies, or else how the run ends.
 fn confirm(alloc: Global, text: &Pla, report: &Report) -> Result<u32, Ending>
-    requires { IsPla (parts_of text.now) }
+    requires pla { IsPla (parts_of text.now) }
+    requires report { IsReport (parts_of_report report.now) }
     ensures many { IfOk result (λ many. many ≡ length report.now.blocks.items) }
     ensures verified { OnOk result (IsVerified (parts_of text.now) (parts_of_report report.now)) }
     ensures ends { IfErr result (EndsTest (Denies (parts_of text.now) (parts_of_report report.now))) }
