@@ -66,6 +66,7 @@ pub literals-MayStand : (n rails : ℕ) → All (MayStand n rails) (literals_of 
 literals-MayStand n rails k d within = (All-filter (is_allowed rails) (NamesBelow n) (literals_below n) (names_of_below n) k d within, filter_passes (is_allowed rails) (literals_below n) k d within)
 
 pub controls-MayStand : (n rails : ℕ) → All (MayStand n rails) (controls_of n rails)
+unfolding controls_of
 controls-MayStand n rails =
     All-cons (MayStand n rails) Zero (One ∷ literals_of n rails) (tt, refl) (All-cons (MayStand n rails) One (literals_of n rails) (tt, refl) (literals-MayStand n rails))
 
@@ -125,6 +126,7 @@ literals-Bar (suc n) rails i h e =
 -- ---- the controls
 -- each control that may stand is one of them
 pub controls-Contains : (n rails : ℕ) (c : Control) → MayStand n rails c → Contains (controls_of n rails) c
+unfolding controls_of
 controls-Contains n rails Zero h = (0, omega arith, refl)
 controls-Contains n rails One h = (1, omega arith, refl)
 controls-Contains n rails (Plain i) h = Contains-append_right (Zero ∷ One ∷ []) (literals_of n rails) (Plain i) (literals-Plain n rails i h.0 h.1)
@@ -152,7 +154,16 @@ length-literals_below (suc n) =
 
 -- there are at most two for each input, and the constants
 pub length-controls_of : (n rails : ℕ) → length (controls_of n rails) ≤ 2 * n + 2
+unfolding controls_of
 length-controls_of n rails =
     let few = filter_few (is_allowed rails) (literals_below n) in
     let all = length-literals_below n in
     omega arith
+
+pub some_controls : (n rails : ℕ) → 2 ≤ length (controls_of n rails)
+unfolding controls_of
+some_controls n rails = omega arith
+
+-- each of them names an input below ten
+pub names_at_number : (n rails c : ℕ) → n ≤ 10 → NamesBelow 10 (get_or (controls_of n rails) c Zero)
+names_at_number n rails c few = NamesBelow-more n 10 few (get_or (controls_of n rails) c Zero) (control_at_number n rails c).0

@@ -35,5 +35,5 @@ abbrev pub literals_of : ℕ → ℕ → List Control
 literals_of n rails = filter (is_allowed rails) (literals_below n)
 
 -- the controls that may stand: `0`, `1`, and the allowed literals
-abbrev pub controls_of : ℕ → ℕ → List Control
+unfoldable pub controls_of : ℕ → ℕ → List Control
 controls_of n rails = Zero ∷ One ∷ literals_of n rails

@@ -128,6 +128,7 @@ impl Rails {
     }
 
     /// The controls that may stand in a lattice of the inputs below `inputs`, at most ten: `0`, `1`, and the allowed literals.
+    #[tactic(auto, unfolding(crate::specs::Rails::controls_of))]
     pub fn controls(self, inputs: u8) -> ArrayVec<Control, 22>
         requires { inputs ≤ 10 }
         ensures list { result.items ≡ controls_of inputs self }

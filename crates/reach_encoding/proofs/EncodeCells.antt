@@ -8,7 +8,7 @@ use Rattle.lattice_grid.specs.Neighbours.{HasNeighbours}
 use Rattle.lattice_grid.specs.Path.{IsWithin}
 use Rattle.lattice_grid.specs.Rectangle.{Size}
 use Rattle.clause_core.specs.Formula.{IsOver}
-use Rattle.reach_encoding.specs.Encoding.{Question, cells_of, controls_of, choice, yes}
+use Rattle.reach_encoding.specs.Encoding.{Question, cells_of, many_controls, choice, yes}
 use Rattle.reach_encoding.specs.EncodeParts.{vars_of, cells_along, choice_clause}
 use Rattle.reach_encoding.proofs.EncodeLists.{All-below}
 use Rattle.reach_encoding.proofs.EncodeNumbers.{choice_within}
@@ -28,4 +28,4 @@ all_within R s p places h k d inside = ((h (get_or places k d)).0 (k, inside, ge
   get_or_same xs i e h = get_or_default xs i (get_or xs i e) e h
 
 pub choice_clause_over : (q : Question) (p : ℕ) → p < cells_of q → IsOver (vars_of q) (choice_clause q p)
-choice_clause_over q p h = All-below (λ l. (1 ≤ l.var) × (l.var ≤ vars_of q)) (λ c. yes (choice q p c)) (controls_of q) (λ c k. (omega arith, choice_within q p c h k))
+choice_clause_over q p h = All-below (λ l. (1 ≤ l.var) × (l.var ≤ vars_of q)) (λ c. yes (choice q p c)) (many_controls q) (λ c k. (omega arith, choice_within q p c h k))

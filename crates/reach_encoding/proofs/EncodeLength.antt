@@ -13,8 +13,9 @@ use Rattle.lattice_grid.specs.declared.shape.Place.{Place}
 use Rattle.lattice_grid.specs.Neighbours.{near_cell, has_near, near_of, four_of, eight_of}
 use Rattle.lattice_grid.specs.Rectangle.{Size}
 use Rattle.lattice_grid.proofs.NeighbourLaws.{IsNear-read}
+use Rattle.lattice_grid.proofs.RailsLaws.{some_controls}
 use Rattle.path_meaning.specs.Defective.{defect_in}
-use Rattle.reach_encoding.specs.Encoding.{Question, below, asked_at, cells_of, controls_of, many_asked, place_of, number_of, choices, values_with, values, closed_marks, top, bottom, left, right, next_four, next_eight, marks_at, marks, encoding}
+use Rattle.reach_encoding.specs.Encoding.{Question, below, asked_at, cells_of, many_controls, many_asked, place_of, number_of, choices, values_with, values, closed_marks, top, bottom, left, right, next_four, next_eight, marks_at, marks, encoding}
 use Rattle.reach_encoding.specs.EncodeParts.{vars_of, IsAsked, Adds, HasRoom, choice_clause, value_clause, stuck_clause, start_clause, step_clause, end_clause}
 use Rattle.reach_encoding.proofs.EncodeLists.{flat_map_below_more}
 use Rattle.reach_encoding.proofs.EncodeNumbers.{few_of}
@@ -57,22 +58,24 @@ eight_left_few s p e =
     omega (arith, length-eight s p, near_none s p 0 0 left, near_few s p 0 1, near_few s p 0 2, near_none s p 1 0 left, near_few s p 1 2, near_none s p 2 0 left, near_few s p 2 1, near_few s p 2 2)
 
 -- ---- the clauses
-length-values_with : (q : Question) (d : Defect) (p : ℕ) → length (values_with q d p) ≤ controls_of q * many_asked q
+length-values_with : (q : Question) (d : Defect) (p : ℕ) → length (values_with q d p) ≤ many_controls q * many_asked q
 length-values_with q Sound p =
-    length-flat_map_le (λ c. map (value_clause q p c) (below (many_asked q))) (controls_of q) (many_asked q)
+    length-flat_map_le (λ c. map (value_clause q p c) (below (many_asked q))) (many_controls q) (many_asked q)
     (λ c _. let many = length-map-range_with_len (value_clause q p c) 0 (many_asked q) in omega arith)
 length-values_with q StuckOpen p =
     let many = length-map-range_with_len (stuck_clause q false p) 0 (many_asked q) in
-    let more = mul-le 1 (many_asked q) (controls_of q) (many_asked q) (omega arith) (omega arith) in
+    let some = some_controls q.function.inputs q.rails in
+    let more = mul-le 1 (many_asked q) (many_controls q) (many_asked q) (omega arith) (omega arith) in
     omega arith
 length-values_with q StuckClosed p =
     let many = length-map-range_with_len (stuck_clause q true p) 0 (many_asked q) in
-    let more = mul-le 1 (many_asked q) (controls_of q) (many_asked q) (omega arith) (omega arith) in
+    let some = some_controls q.function.inputs q.rails in
+    let more = mul-le 1 (many_asked q) (many_controls q) (many_asked q) (omega arith) (omega arith) in
     omega arith
 
-length-values : (q : Question) → length (values q) ≤ cells_of q * (controls_of q * many_asked q)
+length-values : (q : Question) → length (values q) ≤ cells_of q * (many_controls q * many_asked q)
 length-values q =
-    length-flat_map_le (λ p. values_with q (defect_in q.array (place_of q.size p)) p) (cells_of q) (controls_of q * many_asked q)
+    length-flat_map_le (λ p. values_with q (defect_in q.array (place_of q.size p)) p) (cells_of q) (many_controls q * many_asked q)
     (λ p _. length-values_with q (defect_in q.array (place_of q.size p)) p)
 
 length-closed_marks : (q : Question) (t : ℕ) (through : Bool) (start end : List ℕ) (next : ℕ → List ℕ) (few : ℕ) → ((p : ℕ) → p < cells_of q → length (next p) ≤ few) → length (closed_marks q t through start next end) ≤ length start + cells_of q * few + length end
@@ -138,7 +141,7 @@ length-clauses q asked =
     let few = few_of q asked in
     let all = length-append (choices q) (values q ++ marks q) in
     let rest = length-append (values q) (marks q) in
-    let bound = few_clauses (cells_of q) (controls_of q) (many_asked q) (length (choices q)) (length (values q)) (length (marks q)) asked.few few.controls few.assignments
+    let bound = few_clauses (cells_of q) (many_controls q) (many_asked q) (length (choices q)) (length (values q)) (length (marks q)) asked.few few.controls few.assignments
     (length-map-range_with_len (choice_clause q) 0 (cells_of q)) (length-values q)
     (length-flat_map_le (marks_at q) (many_asked q) (9 * cells_of q) (λ t _. length-marks_at q t asked)) in
     omega arith

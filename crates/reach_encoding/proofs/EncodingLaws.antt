@@ -21,7 +21,7 @@ use Rattle.lattice_grid.specs.Neighbours.{HasNeighbours, four_of, eight_of}
 use Rattle.lattice_grid.proofs.NeighbourLaws.{place_eq, four_neighbours, eight_neighbours}
 use Rattle.lattice_grid.proofs.RisingLaws.{HasPlace-rising, All-rising}
 use Rattle.cube_core.specs.Function.{Function, IsFunction}
-use Rattle.reach_encoding.specs.Encoding.{Question, below, asked_at, cells_of, controls_of, many_asked, choice, value, mark, yes, no, is_valued, control_of, place_of, number_of, top, bottom, left, right, next_four, next_eight, choices, values_with, values, closed_marks, marks_at, marks, encoding}
+use Rattle.reach_encoding.specs.Encoding.{Question, below, asked_at, cells_of, many_controls, many_asked, choice, value, mark, yes, no, is_valued, control_of, place_of, number_of, top, bottom, left, right, next_four, next_eight, choices, values_with, values, closed_marks, marks_at, marks, encoding}
 
 -- What is in a list of one more, in a map of a list, and in lists joined end to end.
 pub Contains-first : {X : Type 0} → (x : X) (xs : List X) → Contains (x ∷ xs) x
@@ -249,7 +249,7 @@ AllTrue v clauses = (clause : List Literal) → Contains clauses clause → clau
 
 -- the formula, by its three lists of clauses
 pub record HasParts (q : Question) (v : ℕ → Bool) : Type 0 where
-  pub choices : (p : ℕ) → p < cells_of q → clause_is_true v (map (λ c. yes (choice q p c)) (below (controls_of q))) ≡ true
+  pub choices : (p : ℕ) → p < cells_of q → clause_is_true v (map (λ c. yes (choice q p c)) (below (many_controls q))) ≡ true
   pub values : (p : ℕ) → p < cells_of q → AllTrue v (values_with q (defect_in q.array (place_of q.size p)) p)
   pub marks : (t : ℕ) → t < many_asked q → AllTrue v (marks_at q t)
 
@@ -263,13 +263,13 @@ parts_from_satisfied q v h = record {
       (Contains-flat_map (marks_at q) (below (many_asked q)) t c (Contains-below (many_asked q) t within) here)));
 } where
   clause : ℕ → List Literal
-  clause p = map (λ c. yes (choice q p c)) (below (controls_of q))
+  clause p = map (λ c. yes (choice q p c)) (below (many_controls q))
 
 pub satisfied_from_parts : (q : Question) (v : ℕ → Bool) → HasParts q v → Satisfies v (encoding q)
 unfolding encoding
 satisfied_from_parts q v h c here = elim (Contains-append_cases (choices q) (values q ++ marks q) c here) [
   | inl k ↦
-      let found = map-Contains (λ p. map (λ c. yes (choice q p c)) (below (controls_of q))) (below (cells_of q)) c k in
+      let found = map-Contains (λ p. map (λ c. yes (choice q p c)) (below (many_controls q))) (below (cells_of q)) c k in
       ap (clause_is_true v) (sym found.2) ∙ h.choices found.0 (below-Contains (cells_of q) found.0 found.1)
   | inr k ↦ elim (Contains-append_cases (values q) (marks q) c k) [
     | inl k ↦
@@ -282,14 +282,14 @@ satisfied_from_parts q v h c here = elim (Contains-append_cases (choices q) (val
 ]
 
 -- At a cell the values are what each chosen control says, with the defect.
-pub values_from_true : (q : Question) (v : ℕ → Bool) (d : Defect) (p c t : ℕ) → AllTrue v (values_with q d p) → c < controls_of q → v (choice q p c) ≡ true → t < many_asked q → v (value q p t) ≡ with_defect d (value_of (control_of c) (asked_at q t))
+pub values_from_true : (q : Question) (v : ℕ → Bool) (d : Defect) (p c t : ℕ) → AllTrue v (values_with q d p) → c < many_controls q → v (choice q p c) ≡ true → t < many_asked q → v (value q p t) ≡ with_defect d (value_of (control_of q c) (asked_at q t))
 values_from_true q v Sound p c t h below_c chosen below_t =
-    let clause : List Literal = no (choice q p c) ∷ is_valued q (value_of (control_of c) (asked_at q t)) p t ∷ [] in
-    elim (two_from_true v (no (choice q p c)) (is_valued q (value_of (control_of c) (asked_at q t)) p t) (h clause
-    (Contains-flat_map (λ c. map (λ t. no (choice q p c) ∷ is_valued q (value_of (control_of c) (asked_at q t)) p t ∷ []) (below (many_asked q))) (below (controls_of q)) c clause (Contains-below (controls_of q) c below_c)
-    (Contains-map (λ t. no (choice q p c) ∷ is_valued q (value_of (control_of c) (asked_at q t)) p t ∷ []) (below (many_asked q)) t (Contains-below (many_asked q) t below_t))))) [
+    let clause : List Literal = no (choice q p c) ∷ is_valued q (value_of (control_of q c) (asked_at q t)) p t ∷ [] in
+    elim (two_from_true v (no (choice q p c)) (is_valued q (value_of (control_of q c) (asked_at q t)) p t) (h clause
+    (Contains-flat_map (λ c. map (λ t. no (choice q p c) ∷ is_valued q (value_of (control_of q c) (asked_at q t)) p t ∷ []) (below (many_asked q))) (below (many_controls q)) c clause (Contains-below (many_controls q) c below_c)
+    (Contains-map (λ t. no (choice q p c) ∷ is_valued q (value_of (control_of q c) (asked_at q t)) p t ∷ []) (below (many_asked q)) t (Contains-below (many_asked q) t below_t))))) [
       | inl e ↦ absurd (both_ways (v (choice q p c)) (not-true (v (choice q p c)) (sym (no-true v (choice q p c)) ∙ e)) chosen)
-      | inr e ↦ valued_from_true v q (value_of (control_of c) (asked_at q t)) p t e
+      | inr e ↦ valued_from_true v q (value_of (control_of q c) (asked_at q t)) p t e
     ]
 values_from_true q v StuckOpen p c t h below_c chosen below_t =
     valued_from_true v q false p t (one_from_true v (is_valued q false p t) (h (is_valued q false p t ∷ []) (Contains-map (λ t. is_valued q false p t ∷ []) (below (many_asked q)) t (Contains-below (many_asked q) t below_t))))
@@ -375,17 +375,17 @@ true_from_closed q v t through start next end h clause here = elim (Contains-app
   stop p here = true_from_some v (last q t p) (no (mark q p t)) (Contains-first (no (mark q p t)) []) (no-true v (mark q p t) ∙ not_from_false (v (mark q p t)) (false_from_ne_true (v (mark q p t)) (h.stops p here)))
 
 -- Where the values are what each chosen control says, with the defect, these clauses are true.
-pub true_from_values : (q : Question) (v : ℕ → Bool) (d : Defect) (p : ℕ) → ((c t : ℕ) → c < controls_of q → v (choice q p c) ≡ true → t < many_asked q → v (value q p t) ≡ with_defect d (value_of (control_of c) (asked_at q t)))
-    → ((c : ℕ) × (c < controls_of q) × (v (choice q p c) ≡ true)) → AllTrue v (values_with q d p)
+pub true_from_values : (q : Question) (v : ℕ → Bool) (d : Defect) (p : ℕ) → ((c t : ℕ) → c < many_controls q → v (choice q p c) ≡ true → t < many_asked q → v (value q p t) ≡ with_defect d (value_of (control_of q c) (asked_at q t)))
+    → ((c : ℕ) × (c < many_controls q) × (v (choice q p c) ≡ true)) → AllTrue v (values_with q d p)
 true_from_values q v Sound p h some clause here =
-    let found = flat_map-Contains (λ c. map (λ t. no (choice q p c) ∷ is_valued q (value_of (control_of c) (asked_at q t)) p t ∷ []) (below (many_asked q))) (below (controls_of q)) clause here in
-    let found' = map-Contains (λ t. no (choice q p found.0) ∷ is_valued q (value_of (control_of found.0) (asked_at q t)) p t ∷ []) (below (many_asked q)) clause found.2 in
-    ap (clause_is_true v) (sym found'.2) ∙ go found.0 found'.0 (below-Contains (controls_of q) found.0 found.1) (below-Contains (many_asked q) found'.0 found'.1) where
-      go : (c t : ℕ) → c < controls_of q → t < many_asked q → clause_is_true v (no (choice q p c) ∷ is_valued q (value_of (control_of c) (asked_at q t)) p t ∷ []) ≡ true
+    let found = flat_map-Contains (λ c. map (λ t. no (choice q p c) ∷ is_valued q (value_of (control_of q c) (asked_at q t)) p t ∷ []) (below (many_asked q))) (below (many_controls q)) clause here in
+    let found' = map-Contains (λ t. no (choice q p found.0) ∷ is_valued q (value_of (control_of q found.0) (asked_at q t)) p t ∷ []) (below (many_asked q)) clause found.2 in
+    ap (clause_is_true v) (sym found'.2) ∙ go found.0 found'.0 (below-Contains (many_controls q) found.0 found.1) (below-Contains (many_asked q) found'.0 found'.1) where
+      go : (c t : ℕ) → c < many_controls q → t < many_asked q → clause_is_true v (no (choice q p c) ∷ is_valued q (value_of (control_of q c) (asked_at q t)) p t ∷ []) ≡ true
       go c t below_c below_t = elim (cases_Bool (v (choice q p c))) [
-        | inl chosen ↦ or_right (is_true v (no (choice q p c))) (clause_is_true v (is_valued q (value_of (control_of c) (asked_at q t)) p t ∷ []))
-            (or_left (is_true v (is_valued q (value_of (control_of c) (asked_at q t)) p t)) false (true_from_valued v q (value_of (control_of c) (asked_at q t)) p t (h c t below_c chosen below_t)))
-        | inr e ↦ or_left (is_true v (no (choice q p c))) (clause_is_true v (is_valued q (value_of (control_of c) (asked_at q t)) p t ∷ [])) (no-true v (choice q p c) ∙ not_from_false (v (choice q p c)) e)
+        | inl chosen ↦ or_right (is_true v (no (choice q p c))) (clause_is_true v (is_valued q (value_of (control_of q c) (asked_at q t)) p t ∷ []))
+            (or_left (is_true v (is_valued q (value_of (control_of q c) (asked_at q t)) p t)) false (true_from_valued v q (value_of (control_of q c) (asked_at q t)) p t (h c t below_c chosen below_t)))
+        | inr e ↦ or_left (is_true v (no (choice q p c))) (clause_is_true v (is_valued q (value_of (control_of q c) (asked_at q t)) p t ∷ [])) (no-true v (choice q p c) ∙ not_from_false (v (choice q p c)) e)
       ]
 true_from_values q v StuckOpen p h some clause here =
     let found = map-Contains (λ t. is_valued q false p t ∷ []) (below (many_asked q)) clause here in

@@ -6,6 +6,7 @@ pub mod ModelSets
 pub mod ModelLaws
 pub mod EncodingLaws
 pub mod ReadLaws
+pub mod Excluded
 pub mod DecodeLaws
 pub mod EncodeCells
 pub mod EncodeLength

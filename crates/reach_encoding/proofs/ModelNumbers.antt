@@ -1,52 +1,49 @@
 -- The numbers of controls and of cells, and the values that three tables give to variables.
-use Rattle.std.proofs.Common.{◌≡◌, ℕ, ◌+◌, ◌-◌, ◌*◌, ◌/◌, ◌%◌, ◌<◌, ◌≤◌, Bool, cond, eqb, ltb, inl, inr, refl, sym, ap, ◌∙◌, subst, arith}
-use Rattle.std.proofs.lemmas.Bool.{cases_eq, cond-true, cond-false, eq-eqb, ne_eqb, lt-ltb, le-ltb}
+use Rattle.std.proofs.Common.{◌≡◌, ℕ, ◌+◌, ◌-◌, ◌*◌, ◌/◌, ◌%◌, ◌<◌, ◌≤◌, Bool, true, cond, ltb, length, get_or, refl, sym, ap, ◌∙◌, subst, arith}
+use Rattle.std.proofs.lemmas.Bool.{false≢true, cond-true, cond-false, eqb-true, eq-eqb, lt-ltb, le-ltb}
+use Rattle.std.proofs.lemmas.List.{get_or_default}
 use Rattle.std.proofs.lemmas.Nat.{div-mul-add, mod-mul-add, mul-add-lt, div_below, mod_below}
 use Rattle.lattice_grid.specs.declared.control.Control.{Control}
 use Rattle.lattice_grid.specs.declared.control.Control.TheVariants.{Zero, One, Plain, Bar}
 use Rattle.lattice_grid.specs.declared.shape.Place.{Place}
-use Rattle.lattice_grid.specs.Control.{NamesBelow}
 use Rattle.lattice_grid.specs.Path.{IsWithin}
 use Rattle.lattice_grid.specs.Rectangle.{Size}
 use Rattle.lattice_grid.proofs.NeighbourLaws.{place_eq}
-use Rattle.reach_encoding.specs.Encoding.{control_of, place_of, number_of}
-use Rattle.reach_encoding.specs.ModelOf.{number_of_control}
+use Rattle.lattice_grid.specs.Rails.{MayStand, controls_of}
+use Rattle.lattice_grid.proofs.RailsLaws.{controls-Contains}
+use Rattle.reach_encoding.specs.Encoding.{place_of, number_of}
+use Rattle.reach_encoding.specs.ModelOf.{is_control}
 
--- past the constants the even numbers are inputs, the odd ones their complements
-control_past : (c : ℕ) → 2 ≤ c → control_of c ≡ cond (eqb (c % 2) 0) (Plain (c / 2 - 1)) (Bar (c / 2 - 1))
-control_past c past =
-    cond-false (eqb c 0) _ _ (ne_eqb c 0 (λ e. omega arith)) ∙ cond-false (eqb c 1) _ _ (ne_eqb c 1 (λ e. omega arith))
+-- the test of two controls
+pub is_control-true : (a b : Control) → is_control a b ≡ true → a ≡ b
+is_control-true Zero Zero e = refl
+is_control-true Zero One e = absurd (false≢true e)
+is_control-true Zero (Plain j) e = absurd (false≢true e)
+is_control-true Zero (Bar j) e = absurd (false≢true e)
+is_control-true One Zero e = absurd (false≢true e)
+is_control-true One One e = refl
+is_control-true One (Plain j) e = absurd (false≢true e)
+is_control-true One (Bar j) e = absurd (false≢true e)
+is_control-true (Plain i) Zero e = absurd (false≢true e)
+is_control-true (Plain i) One e = absurd (false≢true e)
+is_control-true (Plain i) (Plain j) e = ap Plain (eqb-true i j e)
+is_control-true (Plain i) (Bar j) e = absurd (false≢true e)
+is_control-true (Bar i) Zero e = absurd (false≢true e)
+is_control-true (Bar i) One e = absurd (false≢true e)
+is_control-true (Bar i) (Plain j) e = absurd (false≢true e)
+is_control-true (Bar i) (Bar j) e = ap Bar (eqb-true i j e)
 
-pub control_of-number : (c : Control) → control_of (number_of_control c) ≡ c
-control_of-number Zero = refl
-control_of-number One = refl
-control_of-number (Plain i) =
-    let half : (2 * i + 2) / 2 - 1 ≡ i = omega arith in
-    control_past (2 * i + 2) (omega arith) ∙ cond-true (eqb ((2 * i + 2) % 2) 0) _ _ (eq-eqb ((2 * i + 2) % 2) 0 (omega arith)) ∙ ap Plain half
-control_of-number (Bar i) =
-    let half : (2 * i + 3) / 2 - 1 ≡ i = omega arith in
-    control_past (2 * i + 3) (omega arith) ∙ cond-false (eqb ((2 * i + 3) % 2) 0) _ _ (ne_eqb ((2 * i + 3) % 2) 0 (λ e. omega arith)) ∙ ap Bar half
+pub is_control-same : (a : Control) → is_control a a ≡ true
+is_control-same Zero = refl
+is_control-same One = refl
+is_control-same (Plain i) = eq-eqb i i refl
+is_control-same (Bar i) = eq-eqb i i refl
 
-pub number-control_of : (c : ℕ) → number_of_control (control_of c) ≡ c
-number-control_of c = elim (cases_eq c 0) [
-  | inl none ↦ ap (λ c. number_of_control (control_of c)) none ∙ sym none
-  | inr some ↦ elim (cases_eq c 1) [
-    | inl one ↦ ap (λ c. number_of_control (control_of c)) one ∙ sym one
-    | inr more ↦
-        let past : 2 ≤ c = omega arith in
-        elim (cases_eq (c % 2) 0) [
-          | inl even ↦ ap number_of_control (control_past c past ∙ cond-true (eqb (c % 2) 0) _ _ (eq-eqb (c % 2) 0 even)) ∙ omega arith
-          | inr odd ↦ ap number_of_control (control_past c past ∙ cond-false (eqb (c % 2) 0) _ _ (ne_eqb (c % 2) 0 odd)) ∙ omega arith
-        ]
-  ]
-]
-
--- a control over n inputs is one of the first 2 n + 2
-pub number_of_control-below : (n : ℕ) (c : Control) → NamesBelow n c → number_of_control c < 2 * n + 2
-number_of_control-below n Zero h = omega arith
-number_of_control-below n One h = omega arith
-number_of_control-below n (Plain i) h = omega arith
-number_of_control-below n (Bar i) h = omega arith
+-- a control that may stand has a number
+pub control_found : (n rails : ℕ) (c : Control) → MayStand n rails c → (k : ℕ) × (k < length (controls_of n rails)) × (get_or (controls_of n rails) k Zero ≡ c)
+control_found n rails c h =
+    let at = controls-Contains n rails c h in
+    (at.0, at.1, get_or_default (controls_of n rails) at.0 Zero c at.1 ∙ at.2)
 
 -- the place of a number that is below the number of cells
 pub place_of-within : (s : Size) (p : ℕ) → 1 ≤ s.cols → p < s.rows * s.cols → IsWithin s (place_of s p)

@@ -1,17 +1,20 @@
 -- The truth values that come from a lattice satisfy the encoding.
-use Rattle.std.proofs.Common.{◌≡◌, ℕ, ◌+◌, ◌-◌, ◌*◌, ◌^◌, ◌<◌, ◌≤◌, inl, inr, Bool, true, false, not, cond, eqb, List, [], ◌++◌, length, get_or, map, refl, sym, ap, ◌∙◌, subst, arith, length-append}
+use Rattle.std.proofs.Common.{◌≡◌, ℕ, ◌+◌, ◌-◌, ◌*◌, ◌^◌, ◌<◌, ◌≤◌, inl, inr, Bool, true, false, not, cond, List, [], ◌++◌, length, get_or, map, refl, sym, ap, ◌∙◌, subst, arith, length-append}
 use Rattle.std.specs.List.{flat_map}
 use Rattle.std.specs.FinSet as set
 use Rattle.std.specs.declared.option.Option.{Option}
 use Rattle.std.proofs.lemmas.Bool.{true≢false, or_cases}
-use Rattle.std.proofs.lemmas.List.{get_or_default}
+use Rattle.std.proofs.lemmas.List.{get_or_default, get_or-map, length-map}
 use Rattle.std.proofs.lemmas.Nat.{mul-add-lt, div-add-mod'}
 use Rattle.std.proofs.lemmas.List.FromFn.{length-range_with_len, length-map-range_with_len, get_or-range_with_len, get_or-map-range_with_len}
 use Rattle.clause_core.specs.Formula.{IsSatisfiedBy, value_in}
 use Rattle.cube_core.specs.Function.{Function, IsFunction}
 use Rattle.lattice_grid.specs.declared.shape.Place.{Place}
 use Rattle.lattice_grid.specs.Defects.{Defects}
-use Rattle.lattice_grid.specs.Lattice.{Lattice, IsOver, control_at}
+use Rattle.lattice_grid.specs.declared.control.Control.TheVariants.{Zero}
+use Rattle.lattice_grid.specs.Lattice.{Lattice, control_at}
+use Rattle.lattice_grid.specs.Rails.{IsOverRails}
+use Rattle.lattice_grid.proofs.RailsLaws.{length-controls_of}
 use Rattle.lattice_grid.specs.Path.{IsWithin, AreFourNeighbours, AreEightNeighbours, JoinedBy, CutBy}
 use Rattle.lattice_grid.specs.Rectangle.{Size, IsSize}
 use Rattle.lattice_grid.proofs.RisingLaws.{length-rising_few}
@@ -21,9 +24,10 @@ use Rattle.path_meaning.proofs.Never.{never_both}
 use Rattle.path_meaning.proofs.Walks.{Walk, stop, next, walk_from, path_from}
 use Rattle.reach_encoding.specs.declared.flood.Side.{Side}
 use Rattle.reach_encoding.specs.declared.flood.Side.TheVariants.{Down, Across}
-use Rattle.reach_encoding.specs.Encoding.{Question, asked, asked_at, cells_of, controls_of, many_asked, choice, value, mark, below, place_of, number_of, encoding}
+use Rattle.reach_encoding.specs.Encoding.{Question, controls, asked, asked_at, cells_of, many_controls, many_asked, choice, value, mark, below, place_of, number_of, encoding}
+use Rattle.reach_encoding.specs.EncodeParts.{vars_of}
 use Rattle.reach_encoding.specs.Model.{IsModel}
-use Rattle.reach_encoding.specs.ModelOf.{answered, is_free, entry_of, IsFlooded, number_of_control, control_row, free_cells_of, side_at, IsRowOfMarks, HasMarks}
+use Rattle.reach_encoding.specs.ModelOf.{answered, is_free, entry_of, IsFlooded, is_control, choice_row, free_cells_of, side_at, IsRowOfMarks, HasMarks}
 use Rattle.reach_encoding.proofs.ModelLaws.{Tells, satisfied, chosen}
 use Rattle.reach_encoding.proofs.ModelNumbers.{place_of-number, number_of-below}
 use Rattle.reach_encoding.proofs.ModelSets.{Shows, asked_is}
@@ -78,9 +82,9 @@ module _ (s : Size) (on : Place → Bool) where
     stops = λ p within marked far. none (cut_beside marks flooded p within marked far);
   }
 
-module _ (f : Function) (g : Lattice) (array : Option Defects) (size : IsSize g.size) (over : IsOver f.inputs g) (realises : RealisesIn g f array) where
+module _ (f : Function) (rails : ℕ) (g : Lattice) (array : Option Defects) (size : IsSize g.size) (over : IsOverRails f.inputs rails g) (realises : RealisesIn g f array) where
   abbrev q : Question
-  q = answered f g array
+  q = answered f rails g array
 
   abbrev s : Size
   s = g.size
@@ -105,10 +109,10 @@ module _ (f : Function) (g : Lattice) (array : Option Defects) (size : IsSize g.
     on = is_on_in g array x
 
   -- the values that were written
-  module _ (found : List ℕ) (chosen_first valued values : List Bool) (found_is : found ≡ asked q) (choices_are : chosen_first ≡ flat_map (control_row g (controls_of q)) (below (cells_of q)))
+  module _ (found : List ℕ) (chosen_first valued values : List Bool) (found_is : found ≡ asked q) (choices_are : chosen_first ≡ flat_map (choice_row g (controls q)) (below (cells_of q)))
       (values_are : valued ≡ chosen_first ++ flat_map (free_cells_of g array Down) found) (marks_are : HasMarks f.on g array found valued values) where
     abbrev A : List Bool
-    A = flat_map (control_row g (controls_of q)) (below (cells_of q))
+    A = flat_map (choice_row g (controls q)) (below (cells_of q))
 
     abbrev B : List Bool
     B = flat_map (free_cells_of g array Down) (asked q)
@@ -130,8 +134,8 @@ module _ (f : Function) (g : Lattice) (array : Option Defects) (size : IsSize g.
     row_is t in_asked = subst (λ xs. IsRowOfMarks f.on g array (get_or xs t 0) (row_at t)) found_is (marks_are.each t (subst (λ xs. t < length xs) (sym found_is) in_asked))
 
     -- each row is as long as it should be
-    A_rows : AreRows (control_row g (controls_of q)) (controls_of q) (below (cells_of q))
-    A_rows k d _ = length-map-range_with_len (λ c. eqb (number_of_control (control_at g (place_of s (get_or (below (cells_of q)) k d)))) c) 0 (controls_of q)
+    A_rows : AreRows (choice_row g (controls q)) (many_controls q) (below (cells_of q))
+    A_rows k d _ = length-map (controls q) (λ c. is_control c (control_at g (place_of s (get_or (below (cells_of q)) k d))))
 
     B_rows : AreRows (free_cells_of g array Down) (cells_of q) (asked q)
     B_rows k d _ = length-map-range_with_len (λ p. is_on_in g array (get_or (asked q) k d) (place_of s p)) 0 (cells_of q)
@@ -141,8 +145,8 @@ module _ (f : Function) (g : Lattice) (array : Option Defects) (size : IsSize g.
         let inside : k < many_asked q = subst (λ n. k < n) many within in
         ap length (get_or_default marks_are.rows k d [] within) ∙ (row_is k inside).cells
 
-    A_long : length A ≡ cells_of q * controls_of q
-    A_long = rows_length (control_row g (controls_of q)) (controls_of q) (below (cells_of q)) A_rows ∙ ap (λ n. n * controls_of q) (length-range_with_len 0 (cells_of q))
+    A_long : length A ≡ cells_of q * many_controls q
+    A_long = rows_length (choice_row g (controls q)) (many_controls q) (below (cells_of q)) A_rows ∙ ap (λ n. n * many_controls q) (length-range_with_len 0 (cells_of q))
 
     B_long : length B ≡ many_asked q * cells_of q
     B_long = rows_length (free_cells_of g array Down) (cells_of q) (asked q) B_rows
@@ -150,7 +154,7 @@ module _ (f : Function) (g : Lattice) (array : Option Defects) (size : IsSize g.
     C_long : length C ≡ many_asked q * cells_of q
     C_long = rows_length (λ row. row) (cells_of q) marks_are.rows C_rows ∙ ap (λ n. n * cells_of q) many
 
-    pub long : length values ≡ cells_of q * controls_of q + many_asked q * cells_of q + many_asked q * cells_of q
+    pub long : length values ≡ cells_of q * many_controls q + many_asked q * cells_of q + many_asked q * cells_of q
     long =
         let a = A_long in
         let b = B_long in
@@ -163,7 +167,8 @@ module _ (f : Function) (g : Lattice) (array : Option Defects) (size : IsSize g.
     pub few : IsFunction f → cells_of q ≤ 32768 → length values < 2 ^ 31
     few function few_cells =
         let few_inputs = function.few in
-        few_values (cells_of q) (controls_of q) (many_asked q) (length values) few_cells (omega arith) (length-rising_few f (set.union f.on f.off) function) long
+        let most = length-controls_of f.inputs rails in
+        few_values (cells_of q) (many_controls q) (many_asked q) (length values) few_cells (omega arith) (length-rising_few f (set.union f.on f.off) function) long
 
     -- the marked cells of each assignment
     abbrev sets : ℕ → Place → Bool
@@ -172,15 +177,14 @@ module _ (f : Function) (g : Lattice) (array : Option Defects) (size : IsSize g.
     tells : Tells q g sets (value_in values)
     tells = record {
       choice = λ p c in_cells in_controls.
-          let inside = mul-add-lt p (controls_of q) c (cells_of q) in_cells in_controls in
+          let inside = mul-add-lt p (many_controls q) c (cells_of q) in_cells in_controls in
           let a = A_long in
           let long_below = length-range_with_len 0 (cells_of q) in
           let e : 0 + p ≡ p = omega arith in
-          let e' : 0 + c ≡ c = omega arith in
           in_first A B C values whole (choice q p c - 1) (omega arith)
-          ∙ rows_entry (control_row g (controls_of q)) (controls_of q) (below (cells_of q)) A_rows 0 p c (choice q p c - 1) (omega arith) (omega arith) in_controls
-          ∙ ap (λ n. get_or (control_row g (controls_of q) n) c false) (get_or-range_with_len 0 (cells_of q) p 0 in_cells ∙ e)
-          ∙ get_or-map-range_with_len (λ c. eqb (number_of_control (control_at g (place_of s p))) c) 0 (controls_of q) c c false in_controls e';
+          ∙ rows_entry (choice_row g (controls q)) (many_controls q) (below (cells_of q)) A_rows 0 p c (choice q p c - 1) (omega arith) (omega arith) in_controls
+          ∙ ap (λ n. get_or (choice_row g (controls q) n) c false) (get_or-range_with_len 0 (cells_of q) p 0 in_cells ∙ e)
+          ∙ get_or-map (λ c. is_control c (control_at g (place_of s p))) (controls q) c Zero false in_controls;
       value = λ p t in_cells in_asked.
           let inside = mul-add-lt t (cells_of q) p (many_asked q) in_asked in_cells in
           let a = A_long in
@@ -203,3 +207,6 @@ module _ (f : Function) (g : Lattice) (array : Option Defects) (size : IsSize g.
     pub is_satisfied : IsSatisfiedBy values (encoding q)
     unfolding encoding
     is_satisfied = let e = long in record { wide = omega arith; satisfies = is_model.satisfies }
+
+    pub whole_length : length values ≡ vars_of q
+    whole_length = let e = long in omega arith

@@ -1,24 +1,26 @@
 -- What a solution chooses is a lattice that realises the function.
-use Rattle.std.proofs.Common.{◌≡◌, ◌≢◌, ℕ, suc, zero, ◌+◌, ◌-◌, ◌*◌, ◌/◌, ◌%◌, ◌≤◌, ◌<◌, inl, inr, Bool, true, false, cond, map, eqb, refl, sym, ap, ◌∙◌, subst, arith}
+use Rattle.std.proofs.Common.{◌≡◌, ℕ, suc, zero, ◌+◌, ◌≤◌, ◌<◌, inl, inr, Bool, true, false, cond, map, get_or, refl, sym, ap, ◌∙◌, subst, arith}
 use Rattle.std.specs.FinSet as set
-use Rattle.std.proofs.lemmas.Bool.{cases_order, cond-true, cond-false, eqb-false, cond_both, both_ways, not-true}
-use Rattle.std.proofs.lemmas.List.Elements.{All-map, All-weaker}
+use Rattle.std.proofs.lemmas.Bool.{cases_order, cond-true, cond-false, both_ways, not-true}
+use Rattle.std.proofs.lemmas.List.Elements.{All-map}
 use Rattle.std.proofs.lemmas.List.FromFn.{length-map-range_with_len, get_or-map-range_with_len}
 use Rattle.cube_core.specs.Rising.{least_from}
 use Rattle.clause_core.specs.Literal.{is_true}
-use Rattle.lattice_grid.specs.declared.control.Control.{Control}
-use Rattle.lattice_grid.specs.declared.control.Control.TheVariants.{Zero, One, Plain, Bar}
+use Rattle.lattice_grid.specs.declared.control.Control.TheVariants.{Zero}
 use Rattle.lattice_grid.specs.declared.shape.Place.{Place}
-use Rattle.lattice_grid.specs.Control.{value_of, NamesBelow}
-use Rattle.lattice_grid.specs.Lattice.{IsLattice, IsOver, control_at}
+use Rattle.lattice_grid.specs.Control.{value_of}
+use Rattle.lattice_grid.specs.Lattice.{IsLattice, control_at}
+use Rattle.lattice_grid.specs.Rails.{MayStand, IsOverRails}
+use Rattle.lattice_grid.proofs.RailsLaws.{control_at_number, MayStand-NamesBelow}
+use Rattle.std.proofs.lemmas.Option.{IfSome_then}
 use Rattle.lattice_grid.specs.Path.{IsWithin}
 use Rattle.path_meaning.specs.Closed.{StopsBelow, StopsBeside}
 use Rattle.path_meaning.specs.Defective.{RealisesIn, IsRealisedIn, JoinedIn, is_on_in, defect_in, with_defect}
 use Rattle.path_meaning.proofs.Least.{either_or}
 use Rattle.path_meaning.proofs.Refuted.{joined_refuted, cut_refuted}
-use Rattle.reach_encoding.specs.Encoding.{Question, IsQuestion, below, asked_at, cells_of, controls_of, many_asked, choice, value, mark, yes, control_of, place_of, number_of, top, bottom, left, right, next_four, next_eight, closed_marks, encoding, HasSolution}
+use Rattle.reach_encoding.specs.Encoding.{Question, IsQuestion, below, asked_at, cells_of, many_controls, many_asked, choice, value, mark, yes, control_of, place_of, number_of, top, bottom, left, right, next_four, next_eight, closed_marks, encoding, HasSolution}
 use Rattle.reach_encoding.specs.Solved.{IsReadAsLattice, lattice_read, first_chosen}
-use Rattle.reach_encoding.proofs.EncodingLaws.{HasParts, parts_from_satisfied, AllTrue, IsClosed, closed_from_true, values_from_true, some_from_true, map-Contains, below-Contains, All-below, yes-true, number_below, place-number, Contains-top, Contains-bottom, Contains-left, Contains-right, Contains-next_four, Contains-next_eight, asked_found, not_on_from_off}
+use Rattle.reach_encoding.proofs.EncodingLaws.{HasParts, parts_from_satisfied, AllTrue, IsClosed, closed_from_true, values_from_true, some_from_true, map-Contains, below-Contains, yes-true, number_below, place-number, Contains-top, Contains-bottom, Contains-left, Contains-right, Contains-next_four, Contains-next_eight, asked_found, not_on_from_off}
 
 -- where one of the numbers passes the test, the first that passes is one of them, and passes
 pub record IsFound (test : ℕ → Bool) (i end k : ℕ) : Type 0 where
@@ -46,50 +48,33 @@ pub least_from-below : (test : ℕ → Bool) (end k : ℕ) → k < end → test 
 least_from-below test end k within passes =
     subst (λ e. IsFound test 0 e (least_from test end 0)) (omega arith) (least_from-found test end 0 k (record { from = omega arith; below = omega arith; passes = passes }))
 
--- a control of the numbers names an input that there is
-pub control_of-below : (n c : ℕ) → c < 2 * n + 2 → NamesBelow n (control_of c)
-control_of-below n c h =
-    cond_both (eqb c 0) Zero (cond (eqb c 1) One (cond (eqb (c % 2) 0) (Plain (c / 2 - 1)) (Bar (c / 2 - 1)))) (NamesBelow n) (λ _. tt) (λ not0.
-    cond_both (eqb c 1) One (cond (eqb (c % 2) 0) (Plain (c / 2 - 1)) (Bar (c / 2 - 1))) (NamesBelow n) (λ _. tt) (λ not1.
-    let ne0 : c ≢ 0 = eqb-false c 0 not0 in
-    let ne1 : c ≢ 1 = eqb-false c 1 not1 in
-    let few : c / 2 - 1 < n = omega arith in
-    cond_both (eqb (c % 2) 0) (Plain (c / 2 - 1)) (Bar (c / 2 - 1)) (NamesBelow n) (λ _. few) (λ _. few)))
-
--- what names an input below a number names one below each larger number
-pub NamesBelow-more : (n m : ℕ) → n ≤ m → (c : Control) → NamesBelow n c → NamesBelow m c
-NamesBelow-more n m more Zero h = tt
-NamesBelow-more n m more One h = tt
-NamesBelow-more n m more (Plain i) h = omega arith
-NamesBelow-more n m more (Bar i) h = omega arith
-
 module _ (q : Question) (v : ℕ → Bool) (ok : IsQuestion q) (parts : HasParts q v) where
   -- some control is chosen at each cell
-  pub some_chosen : (p : ℕ) → p < cells_of q → (c : ℕ) × (c < controls_of q) × (v (choice q p c) ≡ true)
+  pub some_chosen : (p : ℕ) → p < cells_of q → (c : ℕ) × (c < many_controls q) × (v (choice q p c) ≡ true)
   some_chosen p within =
-      let some = some_from_true v (map (λ c. yes (choice q p c)) (below (controls_of q))) (parts.choices p within) in
-      let which = map-Contains (λ c. yes (choice q p c)) (below (controls_of q)) some.0 some.1 in
-      (which.0, below-Contains (controls_of q) which.0 which.1, sym (yes-true v (choice q p which.0)) ∙ (ap (is_true v) which.2 ∙ some.2))
+      let some = some_from_true v (map (λ c. yes (choice q p c)) (below (many_controls q))) (parts.choices p within) in
+      let which = map-Contains (λ c. yes (choice q p c)) (below (many_controls q)) some.0 some.1 in
+      (which.0, below-Contains (many_controls q) which.0 which.1, sym (yes-true v (choice q p which.0)) ∙ (ap (is_true v) which.2 ∙ some.2))
 
   -- so the first one is
-  pub chosen : (p : ℕ) → p < cells_of q → IsFound (λ c. v (choice q p c)) 0 (controls_of q) (first_chosen q v p)
+  pub chosen : (p : ℕ) → p < cells_of q → IsFound (λ c. v (choice q p c)) 0 (many_controls q) (first_chosen q v p)
   chosen p within =
       let some = some_chosen p within in
-      least_from-below (λ c. v (choice q p c)) (controls_of q) some.0 some.1 some.2
+      least_from-below (λ c. v (choice q p c)) (many_controls q) some.0 some.1 some.2
 
   -- the lattice has this control at a place
-  pub control_read : (c : Place) → IsWithin q.size c → control_at (lattice_read q v) c ≡ control_of (first_chosen q v (number_of q.size c))
-  control_read c within = get_or-map-range_with_len (λ p. control_of (first_chosen q v p)) 0 (cells_of q) (number_of q.size c) (number_of q.size c) Zero (number_below q.size c within) (omega arith)
+  pub control_read : (c : Place) → IsWithin q.size c → control_at (lattice_read q v) c ≡ control_of q (first_chosen q v (number_of q.size c))
+  control_read c within = get_or-map-range_with_len (λ p. control_of q (first_chosen q v p)) 0 (cells_of q) (number_of q.size c) (number_of q.size c) Zero (number_below q.size c within) (omega arith)
 
-  pub over_read : IsOver q.function.inputs (lattice_read q v)
-  over_read = All-map (NamesBelow q.function.inputs) (λ p. control_of (first_chosen q v p)) (below (cells_of q)) (All-weaker (λ p. p < cells_of q) (λ p. NamesBelow q.function.inputs (control_of (first_chosen q v p)))
-      (λ p within. control_of-below q.function.inputs (first_chosen q v p) (chosen p within).below) (below (cells_of q)) (All-below (cells_of q)))
+  pub over_read : IsOverRails q.function.inputs q.rails (lattice_read q v)
+  over_read = All-map (MayStand q.function.inputs q.rails) (λ p. control_of q (first_chosen q v p)) (below (cells_of q))
+      (λ k d within. control_at_number q.function.inputs q.rails (first_chosen q v (get_or (below (cells_of q)) k d)))
 
   pub kept_read : IsLattice (lattice_read q v)
   kept_read = record {
     size = ok.size;
-    whole = length-map-range_with_len (λ p. control_of (first_chosen q v p)) 0 (cells_of q);
-    inputs = All-weaker (NamesBelow q.function.inputs) (NamesBelow 10) (NamesBelow-more q.function.inputs 10 ok.function.few) (lattice_read q v).cells over_read;
+    whole = length-map-range_with_len (λ p. control_of q (first_chosen q v p)) 0 (cells_of q);
+    inputs = MayStand-NamesBelow q.function.inputs q.rails ok.function.few (lattice_read q v).cells over_read;
   }
 
   -- the value of a cell is what its control and its defect say
@@ -99,7 +84,7 @@ module _ (q : Question) (v : ℕ → Bool) (ok : IsQuestion q) (parts : HasParts
       let inside : p < cells_of q = number_below q.size c within in
       let first = chosen p inside in
       values_from_true q v (defect_in q.array (place_of q.size p)) p (first_chosen q v p) t (parts.values p inside) first.below first.passes below_t
-      ∙ ap (λ d. with_defect (defect_in q.array d) (value_of (control_of (first_chosen q v p)) (asked_at q t))) (place-number q.size c within)
+      ∙ ap (λ d. with_defect (defect_in q.array d) (value_of (control_of q (first_chosen q v p)) (asked_at q t))) (place-number q.size c within)
       ∙ ap (λ k. with_defect (defect_in q.array c) (value_of k (asked_at q t))) (sym (control_read c within))
 
   -- the marked cells
@@ -141,6 +126,7 @@ module _ (q : Question) (v : ℕ → Bool) (ok : IsQuestion q) (parts : HasParts
 
   pub realises_read : RealisesIn (lattice_read q v) q.function q.array
   realises_read = record {
+    same_size = IfSome_then q.array ok.array (λ a h. h.1);
     on = λ x on.
         let found = asked_found q x ok.function (inl on) in
         subst (JoinedIn (lattice_read q v) q.array) found.2 (joined_at found.0 found.1 (ap (set.contains q.function.on) found.2 ∙ on));
@@ -150,10 +136,12 @@ module _ (q : Question) (v : ℕ → Bool) (ok : IsQuestion q) (parts : HasParts
   }
 
 pub read_as_lattice : IsReadAsLattice
-read_as_lattice q v ok sat = let parts = parts_from_satisfied q v sat in (kept_read q v ok parts, over_read q v ok parts, realises_read q v ok parts)
+read_as_lattice q v ok sat =
+    let parts = parts_from_satisfied q v sat in
+    record { chooses = some_chosen q v ok parts; kept = kept_read q v ok parts; over = over_read q v ok parts; realises = realises_read q v ok parts }
 
 -- so where the formula has a solution some lattice answers the question
-pub realised_from_solution : (q : Question) → IsQuestion q → HasSolution (encoding q) → IsRealisedIn q.function.inputs q.function q.size q.array
+pub realised_from_solution : (q : Question) → IsQuestion q → HasSolution (encoding q) → IsRealisedIn q.function.inputs q.rails q.function q.size q.array
 realised_from_solution q ok solution =
     let read = read_as_lattice q solution.0 ok solution.1 in
-    record { lattice = lattice_read q solution.0; kept = read.0; size_is = refl; over = read.1; realises = read.2 }
+    record { lattice = lattice_read q solution.0; kept = read.kept; size_is = refl; over = read.over; realises = read.realises }

@@ -1,5 +1,5 @@
 -- The formula whose solutions are the lattices of a size that realise a function.
-use Rattle.std.specs.Prelude.{◌≡◌, ℕ, ◌+◌, ◌-◌, ◌*◌, ◌/◌, ◌%◌, ◌^◌, ◌≤◌, ◌==◌, Bool, true, false, not, List, [], ◌∷◌, ◌++◌, length, map, slice_index, if◌then◌else◌, IfSome}
+use Rattle.std.specs.Prelude.{◌≡◌, ℕ, ◌+◌, ◌-◌, ◌*◌, ◌/◌, ◌%◌, ◌^◌, ◌≤◌, Bool, true, false, not, List, [], ◌∷◌, ◌++◌, length, map, slice_index, slice_index_or, if◌then◌else◌, IfSome}
 use Rattle.std.specs.declared.option.Option.{Option}
 use Rattle.std.specs.List.{flat_map, range_with_len}
 use Rattle.std.specs.FinSet as set
@@ -10,17 +10,19 @@ use Rattle.clause_core.specs.Formula.{Formula, Satisfies}
 use Rattle.lattice_grid.specs.declared.array.Defect.{Defect}
 use Rattle.lattice_grid.specs.declared.array.Defect.TheVariants.{Sound, StuckOpen, StuckClosed}
 use Rattle.lattice_grid.specs.declared.control.Control.{Control}
-use Rattle.lattice_grid.specs.declared.control.Control.TheVariants.{Zero, One, Plain, Bar}
+use Rattle.lattice_grid.specs.declared.control.Control.TheVariants.{Zero}
 use Rattle.lattice_grid.specs.declared.shape.Place.{Place}
 use Rattle.lattice_grid.specs.Control.{value_of}
 use Rattle.lattice_grid.specs.Defects.{Defects, IsArray}
 use Rattle.lattice_grid.specs.Neighbours.{four_of, eight_of}
+use Rattle.lattice_grid.specs.Rails.{controls_of}
 use Rattle.lattice_grid.specs.Rectangle.{Size, IsSize}
 use Rattle.path_meaning.specs.Defective.{defect_in}
 
--- what is asked for: a lattice of this size that realises the function, on an array with these defects, or on none
+-- what is asked for: a lattice of this size and of allowed literals that realises the function, on an array with these defects, or on none
 pub record Question : Type 0 where
   pub function : Function
+  pub rails : ℕ
   pub size : Size
   pub array : Option Defects
 
@@ -42,25 +44,32 @@ asked q = rising (2 ^ q.function.inputs) (set.union q.function.on q.function.off
 abbrev pub asked_at : Question → ℕ → ℕ
 asked_at q t = slice_index (asked q) t
 
+-- the controls that may stand, `0`, `1` and the allowed literals, and the one of a number
+abbrev pub controls : Question → List Control
+controls q = controls_of q.function.inputs q.rails
+
+abbrev pub control_of : Question → ℕ → Control
+control_of q c = slice_index_or (controls q) c Zero
+
 -- how many cells, controls and assignments there are
 abbrev pub cells_of : Question → ℕ
 cells_of q = q.size.rows * q.size.cols
 
-abbrev pub controls_of : Question → ℕ
-controls_of q = 2 * q.function.inputs + 2
+abbrev pub many_controls : Question → ℕ
+many_controls q = length (controls q)
 
 abbrev pub many_asked : Question → ℕ
 many_asked q = length (asked q)
 
 -- The variables, from 1 on: that control c stands at cell p, that cell p is on at assignment t, and that cell p is marked there.
 abbrev pub choice : Question → ℕ → ℕ → ℕ
-choice q p c = p * controls_of q + c + 1
+choice q p c = p * many_controls q + c + 1
 
 abbrev pub value : Question → ℕ → ℕ → ℕ
-value q p t = cells_of q * controls_of q + t * cells_of q + p + 1
+value q p t = cells_of q * many_controls q + t * cells_of q + p + 1
 
 abbrev pub mark : Question → ℕ → ℕ → ℕ
-mark q p t = cells_of q * controls_of q + many_asked q * cells_of q + t * cells_of q + p + 1
+mark q p t = cells_of q * many_controls q + many_asked q * cells_of q + t * cells_of q + p + 1
 
 -- the place of a cell that is counted row by row, and the number of a place
 abbrev pub place_of : Size → ℕ → Place
@@ -68,10 +77,6 @@ place_of s p = record { row = p / s.cols; col = p % s.cols }
 
 abbrev pub number_of : Size → Place → ℕ
 number_of s p = p.row * s.cols + p.col
-
--- the control of a number: `0`, `1`, `x0`, `x0'`, `x1`, `x1'`, ..
-abbrev pub control_of : ℕ → Control
-control_of c = if c == 0 then Zero else if c == 1 then One else if c % 2 == 0 then Plain (c / 2 - 1) else Bar (c / 2 - 1)
 
 -- a variable and its complement
 abbrev pub yes : ℕ → Literal
@@ -86,12 +91,12 @@ is_valued q on p t = record { var = value q p t; negated = not on }
 
 -- Some control stands at each cell.
 abbrev pub choices : Question → List (List Literal)
-choices q = map (λ p. map (λ c. yes (choice q p c)) (below (controls_of q))) (below (cells_of q))
+choices q = map (λ p. map (λ c. yes (choice q p c)) (below (many_controls q))) (below (cells_of q))
 
 -- A sound cell is on as each control that stands there says; a stuck one never, or always.
 abbrev pub values_with : Question → Defect → ℕ → List (List Literal)
 values_with q Sound p =
-    flat_map (λ c. map (λ t. no (choice q p c) ∷ is_valued q (value_of (control_of c) (asked_at q t)) p t ∷ []) (below (many_asked q))) (below (controls_of q))
+    flat_map (λ c. map (λ t. no (choice q p c) ∷ is_valued q (value_of (control_of q c) (asked_at q t)) p t ∷ []) (below (many_asked q))) (below (many_controls q))
 values_with q StuckOpen p = map (λ t. is_valued q false p t ∷ []) (below (many_asked q))
 values_with q StuckClosed p = map (λ t. is_valued q true p t ∷ []) (below (many_asked q))
 
@@ -135,7 +140,7 @@ marks q = flat_map (marks_at q) (below (many_asked q))
 
 -- the formula
 unfoldable pub encoding : Question → Formula
-encoding q = record { vars = cells_of q * (controls_of q + 2 * many_asked q); clauses = choices q ++ (values q ++ marks q) }
+encoding q = record { vars = cells_of q * (many_controls q + 2 * many_asked q); clauses = choices q ++ (values q ++ marks q) }
 
 -- Some truth values make every clause true.
 abbrev pub HasSolution : Formula → Type 0

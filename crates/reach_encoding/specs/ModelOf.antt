@@ -75,23 +75,24 @@ pub record IsFlooded (s : Size) (free : List Bool) (side : Side) (marks : List B
   pub reached : (p : Place) → IsWithin s p → entry_of s marks p ≡ true → IsReached s free side p
 
 -- the question that a lattice may answer
-abbrev pub answered : Function → Lattice → Option Defects → Question
-answered f g array = record { function = f; size = g.size; array = array }
+abbrev pub answered : Function → ℕ → Lattice → Option Defects → Question
+answered f rails g array = record { function = f; rails = rails; size = g.size; array = array }
 
--- the number of a control: `0`, `1`, `x0`, `x0'`, `x1`, `x1'`, ..
-abbrev pub number_of_control : Control → ℕ
-number_of_control Zero = 0
-number_of_control One = 1
-number_of_control (Plain i) = 2 * i + 2
-number_of_control (Bar i) = 2 * i + 3
+-- whether two controls are the same
+abbrev pub is_control : Control → Control → Bool
+is_control Zero Zero = true
+is_control One One = true
+is_control (Plain i) (Plain j) = i == j
+is_control (Bar i) (Bar j) = i == j
+is_control _ _ = false
 
--- for each of the first controls whether it is the one of this number
-abbrev pub number_row : ℕ → ℕ → List Bool
-number_row number controls = map (λ c. number == c) (below controls)
+-- for each of some controls whether it is the one that stands
+abbrev pub control_row : List Control → Control → List Bool
+control_row controls stands = map (λ c. is_control c stands) controls
 
--- for each of the first controls whether it stands at a cell
-abbrev pub control_row : Lattice → ℕ → ℕ → List Bool
-control_row g controls p = number_row (number_of_control (control_at g (place_of g.size p))) controls
+-- for each of some controls whether it stands at a cell
+abbrev pub choice_row : Lattice → List Control → ℕ → List Bool
+choice_row g controls p = control_row controls (control_at g (place_of g.size p))
 
 -- for each of the first n cells whether it is free for a flood at an assignment
 abbrev pub free_row : Lattice → Option Defects → Side → ℕ → ℕ → List Bool

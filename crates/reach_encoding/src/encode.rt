@@ -4,7 +4,7 @@ ghost use Rattle.std.specs.List.{flat_map};
 ghost use Rattle.clause_core.specs.Formula.{most_clauses};
 ghost use Rattle.lattice_grid.specs.Neighbours.{four_of, eight_of};
 ghost use Rattle.lattice_grid.specs.Path.{IsWithin};
-ghost use Rattle.reach_encoding.specs.Encoding.{below, cells_of, controls_of, many_asked, number_of, choices, values_with, values, closed_marks, top, bottom, left, right, next_four, next_eight, marks_at, marks, encoding};
+ghost use Rattle.reach_encoding.specs.Encoding.{below, cells_of, many_controls, many_asked, number_of, choices, values_with, values, closed_marks, top, bottom, left, right, next_four, next_eight, marks_at, marks, encoding};
 ghost use Rattle.reach_encoding.specs.EncodeParts.{vars_of, Adds, HasRoom, cells_along, choice_clause, value_clause, stuck_clause, start_clause, step_clause, end_clause};
 
 use crate::line::Line;
@@ -14,6 +14,7 @@ use clause_core::lit::Lit;
 use cube_core::spec::Spec;
 use lattice_grid::array::{Array, Defect};
 use lattice_grid::neighbours::{eight, four};
+use lattice_grid::rails::Rails;
 use lattice_grid::shape::{Place, Shape};
 use std::alloc::Global;
 use wire_io::fault::NoMemory;
@@ -46,7 +47,7 @@ fn push_choices(alloc: Global, formula: &mut Formula, task: &Task) -> Result<(),
 /// Adds the clauses that a sound cell is on as a control says that stands there.
 fn push_control(formula: &mut Formula, task: &Task, cell: u32, control: u32) -> Result<(), NoMemory>
     requires cell { cell < cells_of task.now }
-    requires control { control < controls_of task.now }
+    requires control { control < many_controls task.now }
     requires room { HasRoom task.now formula.old (map (value_clause task.now cell control) (below (many_asked task.now))) }
     ensures { OnOk result (Adds formula.old formula.new (map (value_clause task.now cell control) (below (many_asked task.now)))) }
 {
@@ -252,19 +253,20 @@ fn push_marks(formula: &mut Formula, task: &Task) -> Result<(), NoMemory>
     Ok(())
 }
 
-/// The formula whose solutions are the lattices of this shape that realise the function, on the array where there is one.
-/// There are at most 32,768 cells.
+/// The formula whose solutions are the lattices of this shape and of allowed literals that realise the function, on the
+/// array where there is one. There are at most 32,768 cells.
 pub fn encode(
     alloc: Global,
     spec: &Spec,
+    rails: Rails,
     shape: Shape,
     array: Option<&Array>,
 ) -> Result<Formula, NoMemory>
     requires few { shape.rows * shape.cols ≤ 32768 }
     requires array { IfSome (option_copied array) (λ a. a.size ≡ shape) }
-    ensures { IfOk result (λ formula. formula ≡ encoding (record { function = spec.now; size = shape; array = option_copied array.entry })) }
+    ensures { IfOk result (λ formula. formula ≡ encoding (record { function = spec.now; rails = rails; size = shape; array = option_copied array.entry })) }
 {
-    let task = Task::new(alloc, spec, shape, array)?;
+    let task = Task::new(alloc, spec, rails, shape, array)?;
     let mut formula = Formula::new(alloc, task.vars());
     push_choices(alloc, &mut formula, &task)?;
     push_values(&mut formula, &task)?;

@@ -1,16 +1,14 @@
 //! The solution that a lattice gives.
-ghost use Rattle.std.specs.Prelude.{◌≡◌, ◌*◌, ◌^◌, ◌<◌, ◌≤◌, ◌++◌, IfOk, OnOk, IfSome, option_copied};
+ghost use Rattle.std.specs.Prelude.{◌≡◌, ◌*◌, ◌<◌, ◌≤◌, ◌++◌, length, IfOk, OnOk, IfSome, option_copied};
 ghost use Rattle.std.specs.List.{flat_map};
-ghost use Rattle.std.specs.FinSet as set;
 ghost use Rattle.clause_core.specs.Formula.{IsSatisfiedBy, value_in};
-ghost use Rattle.cube_core.specs.Rising.{rising};
-ghost use Rattle.lattice_grid.specs.Control.{NamesBelow};
-ghost use Rattle.lattice_grid.specs.Lattice.{IsOver};
+ghost use Rattle.lattice_grid.specs.Rails.{IsOverRails};
 ghost use Rattle.lattice_grid.specs.Rectangle.{IsSize};
 ghost use Rattle.path_meaning.specs.Defective.{RealisesIn, is_on_in};
-ghost use Rattle.reach_encoding.specs.Encoding.{below, place_of, encoding};
+ghost use Rattle.reach_encoding.specs.EncodeParts.{vars_of};
+ghost use Rattle.reach_encoding.specs.Encoding.{below, encoding};
 ghost use Rattle.reach_encoding.specs.Model.{IsModel};
-ghost use Rattle.reach_encoding.specs.ModelOf.{answered, number_of_control, number_row, control_row, free_cells_of, side_at, IsRowOfMarks, HasMarks};
+ghost use Rattle.reach_encoding.specs.ModelOf.{answered, is_control, control_row, choice_row, free_cells_of, side_at, IsRowOfMarks, HasMarks};
 
 use crate::flood::{Side, flood};
 use clause_core::valuation::Valuation;
@@ -19,72 +17,41 @@ use cube_core::spec::Spec;
 use lattice_grid::array::{Array, Defect};
 use lattice_grid::control::Control;
 use lattice_grid::grid::Grid;
-use lattice_grid::shape::{Place, Shape};
+use lattice_grid::rails::Rails;
+use lattice_grid::rising::rising_assignments;
+use lattice_grid::shape::Place;
 use std::alloc::Global;
 use wire_io::fault::NoMemory;
 
-/// The assignments at which the function is 1 or 0, rising.
-fn assignments(alloc: Global, spec: &Spec) -> Result<Vec<Assign>, NoMemory>
-    ensures { IfOk result (λ found. found.items ≡ rising (2 ^ spec.now.inputs) (set.union spec.now.on spec.now.off)) }
+/// Whether two controls are the same.
+fn is_control(one: Control, other: Control) -> bool
+    ensures { result ≡ is_control one other }
 {
-    let asked = spec.on().or(spec.off());
-    let mut found = Vec::new(alloc);
-    for number in 0..1u16 << spec.inputs() {
-        if let Some(x) = Assign::new(number) {
-            if asked.has(x) {
-                found.push(x)?;
-            }
-        }
-    }
-    Ok(found)
+    one == other
 }
 
-/// The number of a control: `0`, `1`, `x0`, `x0'`, `x1`, `x1'`, ..
-fn number(control: Control) -> u32
-    requires { NamesBelow 10 control }
-    ensures same { result ≡ number_of_control control }
+/// Adds for each of some controls whether it is the one that stands.
+fn push_control(
+    values: &mut Vec<bool>,
+    controls: &[Control],
+    stands: Control,
+) -> Result<(), NoMemory>
+    ensures { OnOk result (values.new.items ≡ values.old.items ++ control_row controls.now stands) }
 {
-    match control {
-        Control::Zero => 0,
-        Control::One => 1,
-        Control::Plain(input) => 2 * u32::from(input) + 2,
-        Control::Bar(input) => 2 * u32::from(input) + 3,
-    }
-}
-
-/// The place of a cell that is counted row by row.
-fn place(shape: Shape, cell: u32) -> Place
-    requires { cell < shape.rows * shape.cols }
-    ensures same { result ≡ place_of shape cell }
-    ensures row { result.row < shape.rows }
-    ensures col { result.col < shape.cols }
-{
-    let cols = shape.cols();
-    Place {
-        row: cell / cols,
-        col: cell % cols,
-    }
-}
-
-/// Adds for each control whether it is the one of this number.
-fn push_control(values: &mut Vec<bool>, number: u32, controls: u32) -> Result<(), NoMemory>
-    ensures { OnOk result (values.new.items ≡ values.old.items ++ number_row number controls) }
-{
-    for control in 0..controls {
-        values.push(number == control)?;
+    for control in controls {
+        values.push(is_control(*control, stands))?;
     }
     Ok(())
 }
 
 /// Adds for each cell which control stands there.
-fn push_choices(values: &mut Vec<bool>, grid: &Grid, controls: u32) -> Result<(), NoMemory>
+fn push_choices(values: &mut Vec<bool>, grid: &Grid, controls: &[Control]) -> Result<(), NoMemory>
     ensures size { IsSize grid.now.size }
-    ensures rows { OnOk result (values.new.items ≡ values.old.items ++ flat_map (control_row grid.now controls) (below (grid.now.size.rows * grid.now.size.cols))) }
+    ensures rows { OnOk result (values.new.items ≡ values.old.items ++ flat_map (choice_row grid.now controls.now) (below (grid.now.size.rows * grid.now.size.cols))) }
 {
     let shape = grid.shape();
     for cell in 0..shape.area() {
-        let control = grid.at(place(shape, cell));
-        push_control(values, number(control), controls)?;
+        push_control(values, controls, grid.at(shape.place(cell)))?;
     }
     Ok(())
 }
@@ -121,7 +88,7 @@ fn free_cells(
     let shape = grid.shape();
     let mut cells = Vec::new(alloc);
     for cell in 0..shape.area() {
-        let on = is_on(grid, array, x, place(shape, cell));
+        let on = is_on(grid, array, x, shape.place(cell));
         cells.push(side.lets_in(on))?;
     }
     Ok(cells)
@@ -191,23 +158,26 @@ fn push_marks(
     Ok(())
 }
 
-/// The solution of the encoding that a lattice gives which answers the question: it chooses at each cell the control that stands there.
+/// The solution of the encoding that a lattice gives which answers the question: it chooses at each cell the control that
+/// stands there. The lattice has at most 32,768 cells and allowed literals of the function's inputs, and realises the function.
 pub fn model_of(
     alloc: Global,
     spec: &Spec,
+    rails: Rails,
     grid: &Grid,
     array: Option<&Array>,
 ) -> Result<Valuation, NoMemory>
     requires few { grid.now.size.rows * grid.now.size.cols ≤ 32768 }
-    requires over { IsOver spec.now.inputs grid.now }
+    requires over { IsOverRails spec.now.inputs rails grid.now }
     requires realises { RealisesIn grid.now spec.now (option_copied array) }
-    requires array { IfSome (option_copied array) (λ a. a.size ≡ grid.now.size) }
-    ensures satisfied { IfOk result (λ values. IsSatisfiedBy values (encoding (answered spec.now grid.now (option_copied array.entry)))) }
-    ensures chosen { IfOk result (λ values. IsModel (answered spec.now grid.now (option_copied array.entry)) grid.now (value_in values)) }
+    ensures satisfied { IfOk result (λ values. IsSatisfiedBy values (encoding (answered spec.now rails grid.now (option_copied array.entry)))) }
+    ensures chosen { IfOk result (λ values. IsModel (answered spec.now rails grid.now (option_copied array.entry)) grid.now (value_in values)) }
+    ensures long { IfOk result (λ values. length values ≡ vars_of (answered spec.now rails grid.now (option_copied array.entry))) }
 {
-    let asked = assignments(alloc, spec)?;
+    let controls = rails.controls(spec.inputs());
+    let asked = rising_assignments(alloc, spec.inputs(), &spec.on().or(spec.off()))?;
     let mut values = Vec::new(alloc);
-    push_choices(&mut values, grid, 2 * u32::from(spec.inputs()) + 2)?;
+    push_choices(&mut values, grid, &controls)?;
     push_values(alloc, &mut values, grid, array, asked.as_slice())?;
     push_marks(alloc, &mut values, spec, grid, array, asked.as_slice())?;
     Ok(Valuation::new(values))

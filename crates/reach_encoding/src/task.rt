@@ -1,64 +1,34 @@
 //! Questions as the encoder reads them.
 ghost use Rattle.std.specs.Prelude.{◌≡◌, ℕ, ◌*◌, ◌^◌, ◌≤◌, ◌<◌, not, IfOk, IfSome, option_copied};
 ghost use Rattle.std.specs.FinSet as set;
-ghost use Rattle.cube_core.specs.Rising.{rising};
-ghost use Rattle.lattice_grid.specs.Control.{value_of, NamesBelow};
+ghost use Rattle.lattice_grid.specs.Control.{value_of};
 ghost use Rattle.lattice_grid.specs.Path.{IsWithin};
 ghost use Rattle.path_meaning.specs.Defective.{defect_in};
-ghost use Rattle.reach_encoding.specs.Encoding.{asked_at, cells_of, controls_of, many_asked, choice, value, mark, place_of, number_of, control_of};
+ghost use Rattle.reach_encoding.specs.Encoding.{asked_at, cells_of, many_controls, many_asked, choice, value, mark, place_of, number_of, control_of};
 ghost use Rattle.reach_encoding.specs.EncodeParts.{vars_of, IsOneOf, IsAsked};
 
+use arrayvec::ArrayVec;
 use clause_core::lit::Lit;
 use cube_core::assign::Assign;
 use cube_core::spec::Spec;
-use cube_core::table::Table;
 use lattice_grid::array::{Array, Defect};
 use lattice_grid::control::Control;
+use lattice_grid::rails::Rails;
+use lattice_grid::rising::rising_assignments;
 use lattice_grid::shape::{Place, Shape};
 use std::alloc::Global;
 use std::marker::Model;
 use wire_io::fault::NoMemory;
 
-/// The assignments of a set, rising.
-fn assignments(alloc: Global, inputs: u8, table: &Table) -> Result<Vec<Assign>, NoMemory>
-    requires { inputs ≤ 10 }
-    ensures { IfOk result (λ found. found.items ≡ rising (2 ^ inputs) table.now) }
-{
-    let mut found = Vec::new(alloc);
-    for number in 0..1u16 << inputs {
-        if let Some(x) = Assign::new(number) {
-            if table.has(x) {
-                found.push(x)?;
-            }
-        }
-    }
-    Ok(found)
-}
-
-/// The control of a number: `0`, `1`, `x0`, `x0'`, `x1`, `x1'`, ..
-fn control(number: u32) -> Control
-    requires { number < 22 }
-    ensures same { result ≡ control_of number }
-    ensures names { NamesBelow 10 result }
-{
-    if number == 0 {
-        Control::Zero
-    } else if number == 1 {
-        Control::One
-    } else if number % 2 == 0 {
-        Control::Plain((number / 2 - 1) as u8)
-    } else {
-        Control::Bar((number / 2 - 1) as u8)
-    }
-}
-
-/// What is asked for, and the assignments that matter for it, rising.
+/// What is asked for, the assignments that matter for it, rising, and the controls that may stand.
 #[derive(Drop)]
 pub struct Task<'a> {
     spec: &'a Spec,
+    rails: Rails,
     shape: Shape,
     array: Option<&'a Array>,
     asked: Vec<Assign>,
+    controls: ArrayVec<Control, 22>,
 }
 
 impl<'a> Model for Task<'a> {
@@ -73,30 +43,33 @@ impl<'a> Model for Task<'a> {
 
     ghost coded = { Prim.hlevel (codes, function_code) };
 
-    ghost view = { λ task. record { function = task.spec.now; size = task.shape; array = option_copied task.array } };
+    ghost view = { λ task. record { function = task.spec.now; rails = task.rails; size = task.shape; array = option_copied task.array } };
 
-    ghost invariant = { λ task. IsAsking (record { function = task.spec.now; size = task.shape; array = option_copied task.array }) task.asked.items };
+    ghost invariant = { λ task. IsAsking (record { function = task.spec.now; rails = task.rails; size = task.shape; array = option_copied task.array }) task.asked.items task.controls.items };
 }
 
 impl<'a> Task<'a> {
-    /// The task of a function, a shape, and an array of this shape or none.
+    /// The task of a function, rails, a shape, and an array of this shape or none.
     pub fn new(
         alloc: Global,
         spec: &'a Spec,
+        rails: Rails,
         shape: Shape,
         array: Option<&'a Array>,
     ) -> Result<Task<'a>, NoMemory>
         requires few { shape.rows * shape.cols ≤ 32768 }
         requires array { IfSome (option_copied array) (λ a. a.size ≡ shape) }
-        ensures { IfOk result (λ task. task ≡ record { function = spec.now; size = shape; array = option_copied array.entry }) }
+        ensures { IfOk result (λ task. task ≡ record { function = spec.now; rails = rails; size = shape; array = option_copied array.entry }) }
     {
         prove!(shape.rows() > 0);
-        let asked = assignments(alloc, spec.inputs(), &spec.on().or(spec.off()))?;
+        let asked = rising_assignments(alloc, spec.inputs(), &spec.on().or(spec.off()))?;
         Ok(Task {
             spec,
+            rails,
             shape,
             array,
             asked,
+            controls: rails.controls(spec.inputs()),
         })
     }
 
@@ -118,10 +91,10 @@ impl<'a> Task<'a> {
 
     /// How many controls may stand at a cell.
     pub fn controls(&self) -> u32
-        ensures same { result ≡ controls_of self.now }
+        ensures same { result ≡ many_controls self.now }
         ensures question { IsAsked self.now }
     {
-        2 * u32::from(self.spec.inputs()) + 2
+        self.controls.len() as u32
     }
 
     /// How many assignments matter.
@@ -144,7 +117,7 @@ impl<'a> Task<'a> {
     /// The literal that a control stands at a cell, or does not.
     pub fn chosen(&self, stands: bool, cell: u32, control: u32) -> Lit
         requires cell { cell < cells_of self.now }
-        requires control { control < controls_of self.now }
+        requires control { control < many_controls self.now }
         ensures same { result ≡ record { var = choice self.now cell control; negated = not stands } }
         ensures over { IsOneOf (vars_of self.now) result }
     {
@@ -186,12 +159,12 @@ impl<'a> Task<'a> {
 
     /// The value of a control at an assignment.
     pub fn control_value(&self, number: u32, time: u32) -> bool
-        requires control { number < controls_of self.now }
+        requires control { number < many_controls self.now }
         requires time { time < many_asked self.now }
-        ensures { result ≡ value_of (control_of number) (asked_at self.now time) }
+        ensures { result ≡ value_of (control_of self.now number) (asked_at self.now time) }
     {
         let x = self.asked[time as usize];
-        control(number).value(x)
+        self.controls[number as usize].value(x)
     }
 
     /// The place of a cell.
@@ -200,11 +173,7 @@ impl<'a> Task<'a> {
         ensures same { result ≡ place_of self.now.size cell }
         ensures within { IsWithin self.now.size result }
     {
-        let cols = self.shape.cols();
-        Place {
-            row: cell / cols,
-            col: cell % cols,
-        }
+        self.shape.place(cell)
     }
 
     /// The number of the cell at a place.
