@@ -26,7 +26,7 @@ use Rattle.report_text.specs.declared.answer.Version.{Version}
 use Rattle.report_text.specs.declared.answer.Version.TheVariants.{One, Two}
 use Rattle.report_text.specs.Form.{lattice_of}
 use Rattle.report_text.specs.Report.{BlockParts, ReportParts, parts_of_block, lines_in}
-use Rattle.four_lattice.specs.Verified.{Basis, basis_of, array_in, least_output, IsOf, IsRight, AreRight, first_line, line_after, Shows, IsBlockRefused, HasRefusedBlock, IsVerified, IsDenied}
+use Rattle.four_lattice.specs.Verified.{Basis, basis_of, array_in, least_output, IsOf, IsRight, AreRight, first_line, line_after, Shows, IsLatticeRefused, IsBlockRefused, HasRefusedBlock, IsVerified, IsDenied}
 use Rattle.four_lattice.specs.declared.verify.VerifyRefusal.{VerifyRefusal}
 use Rattle.four_lattice.specs.declared.verify.VerifyRefusal.TheVariants.{Inputs, Output, Literal, Wrong, NoMemory}
 
@@ -146,6 +146,15 @@ refused_at basis blocks k least line block refusal within is h refused =
       refused = subst (λ n. IsBlockRefused basis n (line_after basis.version (take k all)) (parts_of_block block) refusal) h.least_is
           (subst (λ n. IsBlockRefused basis least n (parts_of_block block) refusal) h.line_is refused);
     }
+
+-- why a lattice is not right, as why its block is not
+pub lattice_refused : (basis : Basis) (least line : ℕ) (block : BlockParts) (f : Function) → IsOf basis.parts least block f
+    → (refusal : VerifyRefusal) → IsLatticeRefused basis.parts.inputs basis.rails line block.answer f refusal → IsBlockRefused basis least line block refusal
+lattice_refused basis least line block f of_output (Inputs at) h = h
+lattice_refused basis least line block f of_output (Output at) h = absurd h
+lattice_refused basis least line block f of_output (Literal at) h = (h.0, (h.1, f, record { lattice = h.2; of_output = of_output }, h.3))
+lattice_refused basis least line block f of_output (Wrong at x) h = (h.0, (h.1, f, record { lattice = h.2; of_output = of_output }, h.3, h.4))
+lattice_refused basis least line block f of_output NoMemory h = h
 
 -- the function of a block is one alone
 one_function : (basis : Basis) (least : ℕ) (block : BlockParts) (f g : Function) → IsOf basis.parts least block f → IsOf basis.parts least block g → f ≡ g

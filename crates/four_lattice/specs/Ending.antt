@@ -103,8 +103,10 @@ cnf_name cnf.NoMemory = codes "NoMemory"
 abbrev pub report_name : ReportRefusal → List ℕ
 report_name (report.Header line) = codes "Header"
 report_name (report.Inputs line) = codes "Inputs"
+report_name (report.Rails line) = codes "Rails"
 report_name (report.Block line) = codes "Block"
 report_name (report.Grid line) = codes "Grid"
+report_name (report.Proofs line) = codes "Proofs"
 report_name (report.Trailing line) = codes "Trailing"
 report_name (report.Truncated line) = codes "Truncated"
 report_name report.NoMemory = codes "NoMemory"
@@ -154,8 +156,10 @@ cnf_spot cnf.NoMemory = Nowhere
 abbrev pub report_spot : ReportRefusal → Spot
 report_spot (report.Header line) = At line
 report_spot (report.Inputs line) = At line
+report_spot (report.Rails line) = At line
 report_spot (report.Block line) = At line
 report_spot (report.Grid line) = At line
+report_spot (report.Proofs line) = At line
 report_spot (report.Trailing line) = At line
 report_spot (report.Truncated line) = At line
 report_spot report.NoMemory = Nowhere

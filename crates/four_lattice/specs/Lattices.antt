@@ -8,6 +8,7 @@ use Rattle.lattice_grid.specs.Pairs.{pairs_of}
 use Rattle.dual_product.specs.Dual.{dual_of}
 use Rattle.pla_reader.specs.Parts.{Parts}
 use Rattle.report_text.specs.declared.answer.Answer.TheVariants.{Found}
+use Rattle.report_text.specs.declared.answer.Version.TheVariants.{Two}
 use Rattle.report_text.specs.Report.{BlockParts, ReportParts}
 use Rattle.four_lattice.specs.declared.ending.Ending.{Ending}
 use Rattle.four_lattice.specs.declared.ending.Ending.TheVariants as ending
@@ -25,7 +26,7 @@ made_by Dual f = dual_of f
 abbrev pub blocks_by : Construction → ℕ → List (List ℕ) → List Function → List BlockParts
 blocks_by how k [] fs = []
 blocks_by how k (name ∷ names) [] = []
-blocks_by how k (name ∷ names) (f ∷ fs) = record { output = k; name = name; answer = Found (made_by how f) } ∷ blocks_by how (suc k) names fs
+blocks_by how k (name ∷ names) (f ∷ fs) = record { output = k; name = name; answer = Found (made_by how f); proofs = [] } ∷ blocks_by how (suc k) names fs
 
 -- the block of the chosen output, or those of all
 abbrev pub chosen : Option ℕ → List BlockParts → List BlockParts
@@ -37,9 +38,9 @@ abbrev pub IsThere : Option ℕ → ℕ → Type 0
 IsThere None many = Unit {0}
 IsThere (Some k) many = k < many
 
--- the report of the lattices of the chosen outputs
+-- the report of the lattices of the chosen outputs, with all literals allowed
 abbrev pub report_by : Construction → Option ℕ → Parts → ReportParts
-report_by how output parts = record { input_names = parts.input_names; blocks = chosen output (blocks_by how 0 parts.output_names parts.functions) }
+report_by how output parts = record { version = Two; rails = 1048575; input_names = parts.input_names; blocks = chosen output (blocks_by how 0 parts.output_names parts.functions) }
 
 -- A fault of writing comes only where the count of faults rose.
 abbrev pub IsWriteCause : ℕ → ℕ → WorkFault → Type 0

@@ -20,9 +20,9 @@ pub record Written : Type 0 where
 abbrev pub realised_text : ReportParts → List ℕ
 realised_text report = codes "realised " ++ (decimal (length report.blocks) ++ codes "\n")
 
--- what is asked of a size and a function, on no array
+-- what is asked of a size and a function, on no array, with all literals allowed
 abbrev pub question_of : Size → Function → Question
-question_of size f = record { function = f; size = size; array = None }
+question_of size f = record { function = f; rails = 1048575; size = size; array = None }
 
 -- A front of a text.
 abbrev pub IsFront : List ℕ → List ℕ → Type 0

@@ -15,6 +15,7 @@ use crate::inputs::input_pla;
 use crate::lattices::WorkFault;
 use clause_core::write::write_cnf;
 use cube_core::spec::Spec;
+use lattice_grid::rails::Rails;
 use lattice_grid::shape::Shape;
 use reach_encoding::encode::encode;
 use std::alloc::Global;
@@ -34,7 +35,7 @@ fn write_encoding<K: Sink>(
     ensures later { K.faults out.old ≤ K.faults out.new }
     ensures cause { IfErr result (IsWriteCause (K.faults out.old) (K.faults out.new)) }
 {
-    let formula = encode(alloc, spec, shape, None)?;
+    let formula = encode(alloc, spec, Rails::all(), shape, None)?;
     write_cnf(&formula, out)?;
     Ok(())
 }

@@ -4,6 +4,7 @@ ghost use Rattle.wire_io.specs.Told.{Gains, GainsFront};
 ghost use Rattle.pla_reader.specs.Names.{bytes_of};
 ghost use Rattle.pla_reader.specs.Parts.{parts_of, IsPla};
 ghost use Rattle.report_text.specs.Report.{blocks_text, report_text};
+ghost use Rattle.report_text.specs.declared.answer.Version.TheVariants.{Two};
 ghost use Rattle.four_lattice.specs.Lattices.{made_by, blocks_by, report_by, ending_of_fault, IsThere, IsWriteCause};
 ghost use Rattle.four_lattice.specs.Devices.{change};
 ghost use Rattle.four_lattice.specs.Judge.{LatticesCome, IsGranted};
@@ -19,7 +20,7 @@ use lattice_grid::grid::Grid;
 use lattice_grid::pairs::pairs;
 use pla_reader::name::Name;
 use pla_reader::pla::Pla;
-use report_text::answer::{Answer, Block};
+use report_text::answer::{ALL_RAILS, Answer, Block};
 use report_text::write::{write_block, write_end, write_head};
 use std::alloc::Global;
 use wire_io::fault::{Failed, NoMemory as OutOfMemory};
@@ -103,8 +104,8 @@ fn write_blocks<K: Sink>(
 ) -> Result<(), WorkFault>
     requires same { length names.now ≡ length specs.now }
     requires few { first + length specs.now ≤ 64 }
-    ensures ok { OnOk result (Gains (K.got sink.old) (K.got sink.new) (blocks_text (blocks_by how first (map bytes_of names.now) specs.now))) }
-    ensures front { GainsFront (K.got sink.old) (K.got sink.new) (blocks_text (blocks_by how first (map bytes_of names.now) specs.now)) }
+    ensures ok { OnOk result (Gains (K.got sink.old) (K.got sink.new) (blocks_text Two (blocks_by how first (map bytes_of names.now) specs.now))) }
+    ensures front { GainsFront (K.got sink.old) (K.got sink.new) (blocks_text Two (blocks_by how first (map bytes_of names.now) specs.now)) }
     ensures later { K.faults sink.old ≤ K.faults sink.new }
     ensures cause { IfErr result (IsWriteCause (K.faults sink.old) (K.faults sink.new)) }
 {
@@ -113,6 +114,7 @@ fn write_blocks<K: Sink>(
             output: first + place as u32,
             name: names[place].copy(alloc)?,
             answer: Answer::Found(how.make(alloc, spec)?),
+            proofs: Vec::new(alloc),
         };
         write_block(sink, &block)?;
     }
@@ -129,8 +131,8 @@ fn write_chosen<K: Sink>(
 ) -> Result<(), WorkFault>
     requires whole { IsPla (parts_of pla.now) }
     requires there { IsThere output pla.now.outputs }
-    ensures ok { OnOk result (Gains (K.got sink.old) (K.got sink.new) (blocks_text (report_by how output (parts_of pla.now)).blocks)) }
-    ensures front { GainsFront (K.got sink.old) (K.got sink.new) (blocks_text (report_by how output (parts_of pla.now)).blocks) }
+    ensures ok { OnOk result (Gains (K.got sink.old) (K.got sink.new) (blocks_text Two (report_by how output (parts_of pla.now)).blocks)) }
+    ensures front { GainsFront (K.got sink.old) (K.got sink.new) (blocks_text Two (report_by how output (parts_of pla.now)).blocks) }
     ensures later { K.faults sink.old ≤ K.faults sink.new }
     ensures cause { IfErr result (IsWriteCause (K.faults sink.old) (K.faults sink.new)) }
 {
@@ -160,7 +162,7 @@ pub(crate) fn write_lattices<K: Sink>(
     ensures later { K.faults sink.old ≤ K.faults sink.new }
     ensures cause { IfErr result (IsWriteCause (K.faults sink.old) (K.faults sink.new)) }
 {
-    write_head(sink, &pla.input_names)?;
+    write_head(sink, &pla.input_names, ALL_RAILS)?;
     write_chosen(alloc, sink, how, output, pla)?;
     write_end(sink)?;
     Ok(())

@@ -111,8 +111,10 @@ fn name_of_report(refusal: ReportRefusal) -> &'static [u8]
     match refusal {
         ReportRefusal::Header { .. } => b"Header",
         ReportRefusal::Inputs { .. } => b"Inputs",
+        ReportRefusal::Rails { .. } => b"Rails",
         ReportRefusal::Block { .. } => b"Block",
         ReportRefusal::Grid { .. } => b"Grid",
+        ReportRefusal::Proofs { .. } => b"Proofs",
         ReportRefusal::Trailing { .. } => b"Trailing",
         ReportRefusal::Truncated { .. } => b"Truncated",
         ReportRefusal::NoMemory => b"NoMemory",
@@ -181,8 +183,10 @@ fn spot_of_report(refusal: ReportRefusal) -> Spot
     match refusal {
         ReportRefusal::Header { line }
         | ReportRefusal::Inputs { line }
+        | ReportRefusal::Rails { line }
         | ReportRefusal::Block { line }
         | ReportRefusal::Grid { line }
+        | ReportRefusal::Proofs { line }
         | ReportRefusal::Trailing { line }
         | ReportRefusal::Truncated { line } => Spot::At { line },
         ReportRefusal::NoMemory => Spot::Nowhere,

@@ -159,3 +159,11 @@ length-controls_of n rails =
     let few = filter_few (is_allowed rails) (literals_below n) in
     let all = length-literals_below n in
     omega arith
+
+pub some_controls : (n rails : ℕ) → 2 ≤ length (controls_of n rails)
+unfolding controls_of
+some_controls n rails = omega arith
+
+-- each of them names an input below ten
+pub names_at_number : (n rails c : ℕ) → n ≤ 10 → NamesBelow 10 (get_or (controls_of n rails) c Zero)
+names_at_number n rails c few = NamesBelow-more n 10 few (get_or (controls_of n rails) c Zero) (control_at_number n rails c).0

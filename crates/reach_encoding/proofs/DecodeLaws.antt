@@ -11,11 +11,13 @@ use Rattle.lattice_grid.specs.Lattice.{Lattice}
 use Rattle.lattice_grid.specs.Rails.{MayStand, IsOverRails, controls_of}
 use Rattle.lattice_grid.specs.Rectangle.{Size}
 use Rattle.lattice_grid.proofs.Differences.{least_from-first}
-use Rattle.lattice_grid.proofs.RailsLaws.{control_at_number}
+use Rattle.std.specs.Prelude.{All}
+use Rattle.lattice_grid.specs.Control.{NamesBelow}
+use Rattle.lattice_grid.proofs.RailsLaws.{control_at_number, MayStand-NamesBelow}
 use Rattle.path_meaning.specs.Defective.{RealisesIn}
 use Rattle.reach_encoding.specs.Encoding.{Question, IsQuestion, controls, many_controls, asked, below, encoding}
 use Rattle.reach_encoding.specs.Solved.{lattice_read}
-use Rattle.reach_encoding.specs.Decode.{is_chosen, ChoosesAt, Chooses, chosen_in, chosen_lattice, IsAskedOf, IsChoosing}
+use Rattle.reach_encoding.specs.Decode.{is_chosen, ChoosesAt, chosen_in, chosen_lattice, IsAskedOf, IsChoosing}
 use Rattle.reach_encoding.proofs.EncodingLaws.{parts_from_satisfied}
 use Rattle.reach_encoding.proofs.ReadLaws.{least_from-below, some_chosen, read_as_lattice}
 
@@ -76,3 +78,10 @@ grid_is allowed s values cells grid made e iff is =
     let whole : Lattice = record { size = s; cells = cells } in
     let made' : (length cells ≡ s.rows * s.cols) × (grid ≡ whole) = subst (λ o. SomeIff o (length cells ≡ s.rows * s.cols) whole) is iff in
     made'.1 ∙ ap (of_cells s) e
+
+-- the cells that the code reads, from a list that is the controls'
+pub cells_read : (n rails : ℕ) (s : Size) (values : List Bool) (read cells : List Control) → read ≡ controls_of n rails → cells ≡ (chosen_lattice read s values).cells → cells ≡ (chosen_lattice (controls_of n rails) s values).cells
+cells_read n rails s values read cells e is = is ∙ ap (λ xs. (chosen_lattice xs s values).cells) e
+
+pub names_read : (n rails : ℕ) (s : Size) (values : List Bool) (cells : List Control) → n ≤ 10 → cells ≡ (chosen_lattice (controls_of n rails) s values).cells → All (NamesBelow 10) cells
+names_read n rails s values cells few e = subst (All (NamesBelow 10)) (sym e) (MayStand-NamesBelow n rails few (chosen_lattice (controls_of n rails) s values).cells (All-chosen n rails s values))

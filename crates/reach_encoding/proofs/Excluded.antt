@@ -1,5 +1,4 @@
 -- What a formula without solutions excludes, and that formulas are small enough.
-use Rattle.std.proofs.Common.{ap, None}
 use Rattle.std.proofs.lemmas.Option.{IfSome_then}
 use Rattle.path_meaning.proofs.Larger.{realised_larger}
 use Rattle.path_meaning.proofs.Plainly.{realised_plainly}

@@ -1,5 +1,5 @@
 -- The truth values that come from a lattice satisfy the encoding.
-use Rattle.std.proofs.Common.{◌≡◌, ℕ, ◌+◌, ◌-◌, ◌*◌, ◌^◌, ◌<◌, ◌≤◌, inl, inr, Bool, true, false, not, cond, eqb, List, [], ◌++◌, length, get_or, map, refl, sym, ap, ◌∙◌, subst, arith, length-append}
+use Rattle.std.proofs.Common.{◌≡◌, ℕ, ◌+◌, ◌-◌, ◌*◌, ◌^◌, ◌<◌, ◌≤◌, inl, inr, Bool, true, false, not, cond, List, [], ◌++◌, length, get_or, map, refl, sym, ap, ◌∙◌, subst, arith, length-append}
 use Rattle.std.specs.List.{flat_map}
 use Rattle.std.specs.FinSet as set
 use Rattle.std.specs.declared.option.Option.{Option}
@@ -25,6 +25,7 @@ use Rattle.path_meaning.proofs.Walks.{Walk, stop, next, walk_from, path_from}
 use Rattle.reach_encoding.specs.declared.flood.Side.{Side}
 use Rattle.reach_encoding.specs.declared.flood.Side.TheVariants.{Down, Across}
 use Rattle.reach_encoding.specs.Encoding.{Question, controls, asked, asked_at, cells_of, many_controls, many_asked, choice, value, mark, below, place_of, number_of, encoding}
+use Rattle.reach_encoding.specs.EncodeParts.{vars_of}
 use Rattle.reach_encoding.specs.Model.{IsModel}
 use Rattle.reach_encoding.specs.ModelOf.{answered, is_free, entry_of, IsFlooded, is_control, choice_row, free_cells_of, side_at, IsRowOfMarks, HasMarks}
 use Rattle.reach_encoding.proofs.ModelLaws.{Tells, satisfied, chosen}
@@ -206,3 +207,6 @@ module _ (f : Function) (rails : ℕ) (g : Lattice) (array : Option Defects) (si
     pub is_satisfied : IsSatisfiedBy values (encoding q)
     unfolding encoding
     is_satisfied = let e = long in record { wide = omega arith; satisfies = is_model.satisfies }
+
+    pub whole_length : length values ≡ vars_of q
+    whole_length = let e = long in omega arith

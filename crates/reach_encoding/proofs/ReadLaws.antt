@@ -1,13 +1,12 @@
 -- What a solution chooses is a lattice that realises the function.
-use Rattle.std.proofs.Common.{◌≡◌, ◌≢◌, ℕ, suc, zero, ◌+◌, ◌-◌, ◌*◌, ◌/◌, ◌%◌, ◌≤◌, ◌<◌, inl, inr, Bool, true, false, cond, map, get_or, eqb, refl, sym, ap, ◌∙◌, subst, arith}
+use Rattle.std.proofs.Common.{◌≡◌, ℕ, suc, zero, ◌+◌, ◌≤◌, ◌<◌, inl, inr, Bool, true, false, cond, map, get_or, refl, sym, ap, ◌∙◌, subst, arith}
 use Rattle.std.specs.FinSet as set
-use Rattle.std.proofs.lemmas.Bool.{cases_order, cond-true, cond-false, eqb-false, cond_both, both_ways, not-true}
-use Rattle.std.proofs.lemmas.List.Elements.{All-map, All-weaker}
+use Rattle.std.proofs.lemmas.Bool.{cases_order, cond-true, cond-false, both_ways, not-true}
+use Rattle.std.proofs.lemmas.List.Elements.{All-map}
 use Rattle.std.proofs.lemmas.List.FromFn.{length-map-range_with_len, get_or-map-range_with_len}
 use Rattle.cube_core.specs.Rising.{least_from}
 use Rattle.clause_core.specs.Literal.{is_true}
-use Rattle.lattice_grid.specs.declared.control.Control.{Control}
-use Rattle.lattice_grid.specs.declared.control.Control.TheVariants.{Zero, One, Plain, Bar}
+use Rattle.lattice_grid.specs.declared.control.Control.TheVariants.{Zero}
 use Rattle.lattice_grid.specs.declared.shape.Place.{Place}
 use Rattle.lattice_grid.specs.Control.{value_of}
 use Rattle.lattice_grid.specs.Lattice.{IsLattice, control_at}
@@ -21,7 +20,7 @@ use Rattle.path_meaning.proofs.Least.{either_or}
 use Rattle.path_meaning.proofs.Refuted.{joined_refuted, cut_refuted}
 use Rattle.reach_encoding.specs.Encoding.{Question, IsQuestion, below, asked_at, cells_of, many_controls, many_asked, choice, value, mark, yes, control_of, place_of, number_of, top, bottom, left, right, next_four, next_eight, closed_marks, encoding, HasSolution}
 use Rattle.reach_encoding.specs.Solved.{IsReadAsLattice, lattice_read, first_chosen}
-use Rattle.reach_encoding.proofs.EncodingLaws.{HasParts, parts_from_satisfied, AllTrue, IsClosed, closed_from_true, values_from_true, some_from_true, map-Contains, below-Contains, All-below, yes-true, number_below, place-number, Contains-top, Contains-bottom, Contains-left, Contains-right, Contains-next_four, Contains-next_eight, asked_found, not_on_from_off}
+use Rattle.reach_encoding.proofs.EncodingLaws.{HasParts, parts_from_satisfied, AllTrue, IsClosed, closed_from_true, values_from_true, some_from_true, map-Contains, below-Contains, yes-true, number_below, place-number, Contains-top, Contains-bottom, Contains-left, Contains-right, Contains-next_four, Contains-next_eight, asked_found, not_on_from_off}
 
 -- where one of the numbers passes the test, the first that passes is one of them, and passes
 pub record IsFound (test : ℕ → Bool) (i end k : ℕ) : Type 0 where

@@ -8,7 +8,7 @@ ghost use Rattle.path_meaning.specs.Defective.{RealisesIn, is_on_in};
 ghost use Rattle.reach_encoding.specs.EncodeParts.{vars_of};
 ghost use Rattle.reach_encoding.specs.Encoding.{below, encoding};
 ghost use Rattle.reach_encoding.specs.Model.{IsModel};
-ghost use Rattle.reach_encoding.specs.ModelOf.{answered, control_row, choice_row, free_cells_of, side_at, IsRowOfMarks, HasMarks};
+ghost use Rattle.reach_encoding.specs.ModelOf.{answered, is_control, control_row, choice_row, free_cells_of, side_at, IsRowOfMarks, HasMarks};
 
 use crate::flood::{Side, flood};
 use clause_core::valuation::Valuation;
@@ -23,6 +23,13 @@ use lattice_grid::shape::Place;
 use std::alloc::Global;
 use wire_io::fault::NoMemory;
 
+/// Whether two controls are the same.
+fn is_control(one: Control, other: Control) -> bool
+    ensures { result ≡ is_control one other }
+{
+    one == other
+}
+
 /// Adds for each of some controls whether it is the one that stands.
 fn push_control(
     values: &mut Vec<bool>,
@@ -32,7 +39,7 @@ fn push_control(
     ensures { OnOk result (values.new.items ≡ values.old.items ++ control_row controls.now stands) }
 {
     for control in controls {
-        values.push(*control == stands)?;
+        values.push(is_control(*control, stands))?;
     }
     Ok(())
 }

@@ -1,5 +1,5 @@
 use Rattle.std.proofs.Common.{arith, rules}
-use Rattle.reach_encoding.proofs.EncodeNumbers.{mark_low, mark_over}
+use Rattle.reach_encoding.proofs.EncodeNumbers.{value_low, mark_low, mark_over}
 use Rattle.reach_encoding.proofs.task.Task.marked.Goals as goal
 
 pub overflow_mul-many : goal.overflow_mul-many
@@ -25,3 +25,6 @@ new-requires-clause-within c = omega (arith, mark_low _ c.cells-cells.ensures.qu
 
 pub returns-clause-over : goal.returns-clause-over
 returns-clause-over c = mark_over c.args.self.now c.args.cell c.args.time c.args.marked _ (search rules) c.requires.cell c.requires.time
+
+pub overflow_mul-cells : goal.overflow_mul-cells
+overflow_mul-cells c = omega (arith, value_low _ c.cells-cells.ensures.question c.args.cell c.args.time _ _ c.cells-cells.ensures.same c.controls.ensures.same c.requires.cell c.requires.time)

@@ -19,3 +19,6 @@ new-requires-clause-within c = omega (arith, value_low _ c.cells-cells.ensures.q
 
 pub returns-clause-over : goal.returns-clause-over
 returns-clause-over c = value_over c.args.self.now c.args.cell c.args.time c.args.on _ (search rules) c.requires.cell c.requires.time
+
+pub overflow_mul-cells : goal.overflow_mul-cells
+overflow_mul-cells c = omega (arith, value_low _ c.cells-cells.ensures.question c.args.cell c.args.time _ _ c.cells-cells.ensures.same c.controls.ensures.same c.requires.cell c.requires.time)
