@@ -57,12 +57,17 @@ fn put_size<K: Sink>(buffer: &mut Buffer, sink: &mut K, shape: Shape) -> Result<
     buffer.put_all(sink, &[rows, b"x", cols])
 }
 
-/// Puts a number.
-fn put_number<K: Sink>(buffer: &mut Buffer, sink: &mut K, number: u32) -> Result<(), Failed>
-    ensures { Puts (K.got sink.old) (K.got sink.new) buffer.old buffer.new (K.faults sink.old) (K.faults sink.new) result (decimal number) }
+/// Puts a number behind a lead.
+fn put_number<K: Sink>(
+    buffer: &mut Buffer,
+    sink: &mut K,
+    lead: &[u8],
+    number: u32,
+) -> Result<(), Failed>
+    ensures { Puts (K.got sink.old) (K.got sink.new) buffer.old buffer.new (K.faults sink.old) (K.faults sink.new) result (lead.now ++ decimal number) }
 {
     let mut digits = Digits::new();
-    buffer.put(sink, digits.format(number).as_bytes())
+    buffer.put_all(sink, &[lead, digits.format(number).as_bytes()])
 }
 
 /// The byte of a defect.
@@ -130,7 +135,7 @@ impl Spelled for Word<'_> {
     fn put<K: Sink>(&self, buffer: &mut Buffer, sink: &mut K) -> Result<(), Failed> {
         match self {
             Word::Text(bytes) => buffer.put(sink, bytes),
-            Word::Number(number) => put_number(buffer, sink, *number),
+            Word::Number(number) => put_number(buffer, sink, b"", *number),
             Word::Size(shape) => put_size(buffer, sink, *shape),
             Word::Rows(array) => put_array(buffer, sink, array),
         }
@@ -154,9 +159,7 @@ impl Spelled for Proof {
 
     fn put<K: Sink>(&self, buffer: &mut Buffer, sink: &mut K) -> Result<(), Failed> {
         put_size(buffer, sink, self.shape)?;
-        let mut digits = Digits::new();
-        let steps = digits.format(self.steps).as_bytes();
-        buffer.put_all(sink, &[b":", steps])
+        put_number(buffer, sink, b":", self.steps)
     }
 }
 
