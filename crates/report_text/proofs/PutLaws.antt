@@ -1,16 +1,31 @@
 -- Texts put one after another.
-use Rattle.std.proofs.Common.{◌≡◌, ℕ, suc, ◌+◌, ◌-◌, ◌*◌, ◌<◌, ◌≤◌, List, [], ◌∷◌, ◌++◌, length, get_or, take, drop, map, refl, sym, ap, ◌∙◌, subst, arith, append_assoc, add-one, drop-cons, Result, Ok, Err}
+use Rattle.std.proofs.Common.{◌≡◌, ℕ, suc, ◌+◌, ◌-◌, ◌*◌, ◌<◌, ◌≤◌, List, [], ◌∷◌, ◌++◌, length, get_or, take, drop, map, refl, sym, ap, ◌∙◌, subst, arith, append_assoc, add-one, drop-cons, length-drop, codes, Result, Ok, Err}
 use Rattle.std.specs.Prelude.{OnOk, OnErr}
 use Rattle.std.specs.Result.{IsErr}
 use Rattle.std.specs.declared.option.Option.{Option}
 use Rattle.std.specs.List.{flat_map, join_with_byte}
 use Rattle.std.proofs.lemmas.Bool.{false≢true}
-use Rattle.std.proofs.lemmas.List.{append-nil, drop_all, drop-drop, get_or-take, get_or-drop}
+use Rattle.std.proofs.lemmas.List.{append-nil, length-take-le, drop_all, drop-drop, get_or-take, get_or-drop}
 use Rattle.wire_io.specs.Causes.{HasCause, Rose}
 use Rattle.wire_io.specs.Passing.{Passes}
 use Rattle.wire_io.specs.Told.{Gains, GainsFront}
 use Rattle.wire_io.proofs.PassingLaws.{Passes-none, Passes-append, Passes-front, GainsFront-passed, GainsFront-first, GainsFront-emptied, Passes-all, Passes-all_front, Passes-flat_map, Passes-flat_map_front, IsPassed, IsPassed-none, IsPassed-more, IsPassed-stop, IsPassed-done}
-use Rattle.report_text.specs.Cells.{rows_of}
+use Rattle.std.proofs.Math.Nat.{mul-le-mul_right}
+use Rattle.lattice_grid.specs.declared.array.Defect.{Defect}
+use Rattle.lattice_grid.specs.declared.array.Defect.TheVariants.{Sound}
+use Rattle.lattice_grid.specs.Defects.{Defects, IsArray, defect_at}
+use Rattle.report_text.specs.Cells.{rows_of, defect_byte, size_text}
+use Rattle.pla_reader.specs.Names.{bytes_of}
+use Rattle.std.specs.Fmt.{decimal}
+use Rattle.lattice_grid.specs.Lattice.{Lattice}
+use Rattle.lattice_grid.specs.Rectangle.{Size}
+use Rattle.report_text.specs.Form.{form_of, form_words, lattice_of, lists}
+use Rattle.report_text.specs.declared.answer.Answer.{Answer}
+use Rattle.report_text.specs.declared.answer.Answer.TheVariants as answers
+use Rattle.report_text.specs.Report.{BlockParts, words_text, text_of, heading_of, heading_words, lattice_lines, proofs_lines, block_text, block_lines, blocks_text, head_text, title_line, inputs_line, rails_lines, report_text, parts_of_block, parts_of_report}
+use Rattle.report_text.specs.declared.answer.Block.{Block}
+use Rattle.report_text.specs.declared.answer.Report.{Report}
+use Rattle.report_text.specs.declared.answer.Version.{Version}
 use Rattle.report_text.specs.Writing.{Puts}
 use Rattle.report_text.proofs.JoinLaws.{join-behind}
 
@@ -159,3 +174,49 @@ rows_after-all cols rows cells = let all : rows - 0 ≡ rows = omega arith in le
 -- the cell of a row
 pub in_row : {X : Type 0} (cols : ℕ) (cells : List X) (row col : ℕ) (d : X) → col < cols → get_or (take cols (drop (row * cols) cells)) col d ≡ get_or cells (row * cols + col) d
 in_row cols cells row col d below = get_or-take cols (drop (row * cols) cells) col d below ∙ get_or-drop (row * cols) cells col d
+
+-- one more piece behind a lead, and what ends a line
+pub led_next : {X : Type 0} (f : X → List ℕ) (sep lead : List ℕ) (xs : List X) (i : ℕ) (d : X) → i < length xs → led f sep lead (drop i xs) ++ 10 ∷ [] ≡ (lead ++ f (get_or xs i d)) ++ (led f sep sep (drop (i + 1) xs) ++ 10 ∷ [])
+led_next f sep lead xs i d within =
+    ap (λ ys. led f sep lead ys ++ 10 ∷ []) (drop-cons xs i d within) ∙ append_assoc (lead ++ f (get_or xs i d)) (led f sep sep (drop (suc i) xs)) (10 ∷ [])
+    ∙ ap (λ n. (lead ++ f (get_or xs i d)) ++ (led f sep sep (drop n xs) ++ 10 ∷ [])) (sym (add-one i))
+
+pub led_end : {X : Type 0} (f : X → List ℕ) (sep lead : List ℕ) (xs : List X) (i : ℕ) → length xs ≡ i → 10 ∷ [] ≡ led f sep lead (drop i xs) ++ 10 ∷ []
+led_end f sep lead xs i e = sym (ap (λ ys. led f sep lead ys ++ 10 ∷ []) (drop_all i xs (let same = e in omega (arith, same))))
+
+-- one more byte of a row of an array
+pub defects_next : (a : Defects) (row col b : ℕ) → IsArray a → row < a.size.rows → col < a.size.cols → b ≡ defect_byte (defect_at a (record { row = row; col = col }))
+    → map defect_byte (drop col (take a.size.cols (drop (row * a.size.cols) a.cells))) ≡ (b ∷ []) ++ map defect_byte (drop (col + 1) (take a.size.cols (drop (row * a.size.cols) a.cells)))
+defects_next a row col b is inside below e =
+    let here : List Defect = take a.size.cols (drop (row * a.size.cols) a.cells) in
+    let room : (row + 1) * a.size.cols ≤ length a.cells = let whole = is.whole in let most = mul-le-mul_right a.size.cols (let more : row + 1 ≤ a.size.rows = omega (arith, inside) in more) in omega (arith, whole, most) in
+    let long : length (take a.size.cols (drop (row * a.size.cols) a.cells)) ≡ a.size.cols = length-take-le a.size.cols (drop (row * a.size.cols) a.cells) (omega (arith, room, length-drop (row * a.size.cols) a.cells)) in
+    let within : col < length (take a.size.cols (drop (row * a.size.cols) a.cells)) = omega (arith, long, below) in
+    ap (map defect_byte) (drop-cons (take a.size.cols (drop (row * a.size.cols) a.cells)) col Sound within)
+    ∙ ap (λ z. defect_byte z ∷ map defect_byte (drop (suc col) (take a.size.cols (drop (row * a.size.cols) a.cells)))) (in_row a.size.cols a.cells row col Sound below)
+    ∙ ap (λ z. z ∷ map defect_byte (drop (suc col) (take a.size.cols (drop (row * a.size.cols) a.cells)))) (sym e)
+    ∙ ap (λ n. b ∷ map defect_byte (drop n (take a.size.cols (drop (row * a.size.cols) a.cells)))) (sym (add-one col))
+
+pub block_parts : (v : Version) (b : BlockParts) → words_text (heading_words (heading_of b)) ++ text_of (lattice_lines (lattice_of b.answer) ++ proofs_lines (lists v (form_of b.answer)) b.proofs) ≡ block_text v b
+unfolding block_text block_lines
+block_parts v b = refl
+
+pub head_parts : (v : Version) (rails : ℕ) (names : List (List ℕ)) → words_text (title_line v).words ++ (words_text (inputs_line names).words ++ text_of (rails_lines v rails)) ≡ head_text v rails names
+unfolding head_text
+head_parts v rails names = refl
+
+mapped_blocks : (v : Version) (blocks : List Block) → flat_map (λ b. block_text v (parts_of_block b)) blocks ≡ blocks_text v (map parts_of_block blocks)
+mapped_blocks v [] = refl
+mapped_blocks v (b ∷ blocks) = ap (λ z. block_text v (parts_of_block b) ++ z) (mapped_blocks v blocks)
+
+pub report_parts : (r : Report) → head_text r.version r.rails (map bytes_of r.input_names.items) ++ (flat_map (λ b. block_text r.version (parts_of_block b)) r.blocks.items ++ codes "end\n") ≡ report_text (parts_of_report r)
+unfolding report_text
+report_parts r = ap (λ z. head_text r.version r.rails (map bytes_of r.input_names.items) ++ (z ++ codes "end\n")) (mapped_blocks r.version r.blocks.items)
+
+pub undecided_text : (output : ℕ) (name name' : List ℕ) (s : Size) (g : Lattice) (least : ℕ) (at : Size) (after : ℕ) (answer : Answer) → name ≡ name' → s ≡ g.size → answer ≡ answers.Undecided g least at after
+    → words_text (codes "output" ∷ decimal output ∷ name ∷ codes "undecided" ∷ size_text s ∷ codes "least" ∷ decimal least ∷ codes "at" ∷ size_text at ∷ codes "after" ∷ decimal after ∷ [])
+    ≡ words_text (codes "output" ∷ decimal output ∷ name' ∷ form_words (form_of answer))
+undecided_text output name name' s g least at after answer e f a =
+    ap (λ n. words_text (codes "output" ∷ decimal output ∷ n ∷ codes "undecided" ∷ size_text s ∷ codes "least" ∷ decimal least ∷ codes "at" ∷ size_text at ∷ codes "after" ∷ decimal after ∷ [])) e
+    ∙ ap (λ z. words_text (codes "output" ∷ decimal output ∷ name' ∷ codes "undecided" ∷ size_text z ∷ codes "least" ∷ decimal least ∷ codes "at" ∷ size_text at ∷ codes "after" ∷ decimal after ∷ [])) f
+    ∙ ap (λ z. words_text (codes "output" ∷ decimal output ∷ name' ∷ form_words (form_of z))) (sym a)
