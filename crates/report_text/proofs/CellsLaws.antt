@@ -1,10 +1,10 @@
 -- The cells of a line, and the rows of an array, one after another.
-use Rattle.std.proofs.Common.{◌≡◌, ◌≢◌, ℕ, suc, ◌+◌, ◌*◌, ◌<◌, ◌≤◌, Bool, true, false, not, List, [], ◌∷◌, ◌++◌, length, get_or, take, drop, map, refl, sym, ap, ◌∙◌, subst, arith, append_assoc, length-append, Some, None, Bor}
-use Rattle.std.specs.Prelude.{All}
+use Rattle.std.proofs.Common.{◌≡◌, ◌≢◌, ℕ, suc, zero, ◌+◌, ◌*◌, ◌<◌, ◌≤◌, Bool, true, false, not, List, [], ◌∷◌, ◌++◌, length, get_or, take, drop, map, refl, sym, ap, ◌∙◌, subst, arith, append_assoc, length-append, Some, None, Bor, Result, Ok, Err}
+use Rattle.std.specs.Prelude.{All, IfOk}
 use Rattle.std.specs.declared.option.Option.{Option}
 use Rattle.std.specs.Bool.{MatchBool}
-use Rattle.std.specs.Option.{is_some}
-use Rattle.std.specs.List.{flat_map}
+use Rattle.std.specs.Option.{is_some, SomeIff, MatchOption}
+use Rattle.std.specs.List.{flat_map, join_with_byte}
 use Rattle.std.proofs.lemmas.Bool.{false≢true}
 use Rattle.std.proofs.lemmas.List.{append-nil, map_push, length-map, take_more, take_all}
 use Rattle.std.proofs.lemmas.List.Concat.{flat_map-append}
@@ -14,14 +14,15 @@ use Rattle.lattice_grid.specs.declared.array.Defect.{Defect}
 use Rattle.lattice_grid.specs.declared.control.Control.{Control}
 use Rattle.lattice_grid.specs.Defects.{Defects, IsArray}
 use Rattle.lattice_grid.specs.Rectangle.{Size, IsSize}
-use Rattle.report_text.specs.Cells.{control_text, defect_byte, array_text, rows_of}
+use Rattle.report_text.specs.Cells.{control_text, defect_byte, array_text, size_text, rows_of}
 use Rattle.report_text.specs.Expected.{IsRow}
 use Rattle.report_text.specs.Pieces.{pieces, words, words_left, pieces_left}
 use Rattle.report_text.proofs.ItemsLaws.{HasItems, items_none, items_push, no_items-word, no_items-many, many_words, items_all}
 use Rattle.report_text.proofs.JoinLaws.{pieces-join, join-pieces}
 use Rattle.report_text.proofs.PiecesLaws.{pieces-some}
-use Rattle.report_text.proofs.RowsLaws.{cells_of, rows_of-cells, length-cells}
-use Rattle.report_text.proofs.WordLaws.{array_rows, rows_are, no_slash_rows}
+use Rattle.report_text.proofs.RowsLaws.{cells_of, rows_of-cells, cells-rows_of}
+use Rattle.report_text.proofs.SpellLaws.{each}
+use Rattle.report_text.proofs.WordLaws.{array_rows, rows_are, no_slash_rows, defect_rows, sizes, size_of_array}
 
 -- ---- cells of a line
 
@@ -149,3 +150,35 @@ pub no_array-more : (size : Size) (word rest : List ℕ) (left : List (List ℕ)
 no_array-more size word rest left cells many h e all a is same f =
     no_items-many (λ ds. length ds ≡ size.cols) (map defect_byte) (pieces 47 word) left h.rows size.rows h.items
     (λ g. let is_many = h.many_are in let some = pieces-some 47 rest in let long = ap length e in omega (arith, g, is_many, some, long, all)) (array_rows a) (array_many a size is same) (array_pieces a size word is same f)
+
+pub no_array-left : (size : Size) (word : List ℕ) (rest : Option (Bor (List ℕ))) (cells : List Defect) (many : ℕ) → HasArrayRows size.cols (pieces 47 word) (pieces_left 47 rest) cells many → is_some rest ≡ true → many ≡ size.rows
+    → (a : Defects) → IsArray a → a.size ≡ size → word ≢ array_text a
+no_array-left size word None cells many h some all = absurd (false≢true some)
+no_array-left size word (Some r) cells many h some all = no_array-more size word r.now (pieces 47 r.now) cells many h refl all
+
+-- no more rows are left: the word is that of an array, where its sides are not too long
+pub array_read : (size : Size) (word : List ℕ) (rest : Option (Bor (List ℕ))) (cells : List Defect) (many : ℕ) → IsSize size → HasArrayRows size.cols (pieces 47 word) (pieces_left 47 rest) cells many → is_some rest ≡ false → many ≡ size.rows
+    → (o : Option Defects) → SomeIff o (IsArray (record { size = size; cells = cells })) (record { size = size; cells = cells })
+    → MatchOption o ((a : Defects) → IsArray a → a.size ≡ size → word ≢ array_text a) (λ a. IsArray a × (a.size ≡ size) × (word ≡ array_text a))
+array_read size word (Some r) cells many is h none all o given = absurd (false≢true (sym none))
+array_read size word None cells many is h none all None no_array = λ a is_array same f.
+    let pieces_are = array_pieces a size word is_array same f in
+    let rows : h.rows ≡ array_rows a = (each (defect_rows size.cols)).same h.rows (array_rows a) h.items.each (array_wide a size is_array same) (sym (items_all (λ ds. length ds ≡ size.cols) (map defect_byte) (pieces 47 word) [] h.rows h.items refl) ∙ pieces_are) in
+    let cells_are : cells ≡ a.cells = h.cells_are ∙ ap cells_of rows ∙ cells-rows_of a.size.cols a.size.rows a.cells is_array.whole in
+    no_array (subst IsArray (λ i. record { size = same i; cells = sym cells_are i }) is_array)
+array_read size word None cells many is h none all (Some a) given =
+    let read = items_all (λ ds. length ds ≡ size.cols) (map defect_byte) (pieces 47 word) [] h.rows h.items refl in
+    let rows : rows_of size.cols size.rows cells ≡ h.rows = ap (rows_of size.cols size.rows) h.cells_are ∙ ap (λ n. rows_of size.cols n (cells_of h.rows)) (sym (h.many_are ∙ all)) ∙ rows_of-cells size.cols h.rows h.items.each in
+    let text : word ≡ array_text (record { size = size; cells = cells }) = sym (join-pieces 47 word) ∙ ap (join_with_byte 47) (read ∙ ap (map (map defect_byte)) (sym rows)) in
+    subst (λ (z : Defects). IsArray z × (z.size ≡ size) × (word ≡ array_text z)) (sym given.1) (given.0, refl, text)
+
+pub array_words : (shape : Size) (size rows : List ℕ) (o : Option Defects) → IsSize shape → size ≡ size_text shape → MatchOption o ((a : Defects) → IsArray a → a.size ≡ shape → rows ≢ array_text a) (λ a. IsArray a × (a.size ≡ shape) × (rows ≡ array_text a))
+    → MatchOption o ((a : Defects) → IsArray a → size ≡ size_text a.size → rows ≢ array_text a) (λ a. IsArray a × (size ≡ size_text a.size) × (rows ≡ array_text a))
+array_words shape size rows None is e none = λ a is_array f. none a is_array (sizes.same a.size shape (size_of_array a is_array) is (sym f ∙ e))
+array_words shape size rows (Some a) is e found = (found.0, e ∙ ap size_text (sym found.1), found.2)
+
+pub array_words_ok : {E : Type 0} (shape : Size) (size rows : List ℕ) (r : Result (Option Defects) E) → IsSize shape → size ≡ size_text shape
+    → IfOk r (λ o. MatchOption o ((a : Defects) → IsArray a → a.size ≡ shape → rows ≢ array_text a) (λ a. IsArray a × (a.size ≡ shape) × (rows ≡ array_text a)))
+    → IfOk r (λ o. MatchOption o ((a : Defects) → IsArray a → size ≡ size_text a.size → rows ≢ array_text a) (λ a. IsArray a × (size ≡ size_text a.size) × (rows ≡ array_text a)))
+array_words_ok shape size rows (Ok o) is e h = array_words shape size rows o is e h
+array_words_ok shape size rows (Err x) is e h = tt

@@ -23,3 +23,4 @@ pub mod TitleLaws
 pub mod PartLaws
 pub mod CellsLaws
 pub mod NamesLaws
+pub mod PutLaws

@@ -226,7 +226,7 @@ tested_defects (b ∷ w) = elim (tested_defect b) [
   first none [] f = absurd cc
   first none (d ∷ ds) f = none (d, cc)
 
-defect_rows : (cols : ℕ) → Spells (List Defect) (λ ds. length ds ≡ cols) (map defect_byte)
+pub defect_rows : (cols : ℕ) → Spells (List Defect) (λ ds. length ds ≡ cols) (map defect_byte)
 defect_rows cols = record {
   same = λ x y p q e. same_defects x y e;
   plain = λ at h ds p. plain_defects at h ds;

@@ -1,5 +1,6 @@
 //! Reports are written.
 ghost use Rattle.std.specs.Prelude.{◌≡◌, ◌*◌, ◌<◌, ◌≤◌, ◌++◌, ◌∷◌, All, OnOk, codes, decimal, map, take, drop, Some};
+ghost use Rattle.std.specs.List.{flat_map};
 ghost use Rattle.std.specs.Option.{option_copied};
 ghost use Rattle.wire_io.specs.Causes.{HasCause};
 ghost use Rattle.wire_io.specs.Told.{Gains, GainsFront};
@@ -9,7 +10,7 @@ ghost use Rattle.pla_reader.specs.Names.{bytes_of};
 ghost use Rattle.report_text.specs.Bounds.{IsBlock, IsReport, AreNames, AreRails};
 ghost use Rattle.report_text.specs.Cells.{control_text, defect_byte, array_text, size_text, proof_text, rows_of};
 ghost use Rattle.report_text.specs.Form.{form_of, lattice_of, lists};
-ghost use Rattle.report_text.specs.Report.{heading_of, heading_words, lattice_lines, proofs_lines, title_line, inputs_line, rails_lines, words_text, text_of, block_text, blocks_text, head_text, report_text, parts_of_block, parts_of_report};
+ghost use Rattle.report_text.specs.Report.{heading_of, heading_words, lattice_lines, proofs_lines, title_line, inputs_line, rails_lines, words_text, text_of, block_text, head_text, report_text, parts_of_block, parts_of_report};
 ghost use Rattle.report_text.specs.Writing.{Puts, word_text, behind_blanks};
 ghost use Rattle.report_text.specs.declared.answer.Version.TheVariants.{Two};
 
@@ -57,12 +58,17 @@ fn put_size<K: Sink>(buffer: &mut Buffer, sink: &mut K, shape: Shape) -> Result<
     buffer.put_all(sink, &[rows, b"x", cols])
 }
 
-/// Puts a number.
-fn put_number<K: Sink>(buffer: &mut Buffer, sink: &mut K, number: u32) -> Result<(), Failed>
-    ensures { Puts (K.got sink.old) (K.got sink.new) buffer.old buffer.new (K.faults sink.old) (K.faults sink.new) result (decimal number) }
+/// Puts a number behind a lead.
+fn put_number<K: Sink>(
+    buffer: &mut Buffer,
+    sink: &mut K,
+    lead: &[u8],
+    number: u32,
+) -> Result<(), Failed>
+    ensures { Puts (K.got sink.old) (K.got sink.new) buffer.old buffer.new (K.faults sink.old) (K.faults sink.new) result (lead.now ++ decimal number) }
 {
     let mut digits = Digits::new();
-    buffer.put(sink, digits.format(number).as_bytes())
+    buffer.put_all(sink, &[lead, digits.format(number).as_bytes()])
 }
 
 /// The byte of a defect.
@@ -130,7 +136,7 @@ impl Spelled for Word<'_> {
     fn put<K: Sink>(&self, buffer: &mut Buffer, sink: &mut K) -> Result<(), Failed> {
         match self {
             Word::Text(bytes) => buffer.put(sink, bytes),
-            Word::Number(number) => put_number(buffer, sink, *number),
+            Word::Number(number) => put_number(buffer, sink, b"", *number),
             Word::Size(shape) => put_size(buffer, sink, *shape),
             Word::Rows(array) => put_array(buffer, sink, array),
         }
@@ -154,9 +160,7 @@ impl Spelled for Proof {
 
     fn put<K: Sink>(&self, buffer: &mut Buffer, sink: &mut K) -> Result<(), Failed> {
         put_size(buffer, sink, self.shape)?;
-        let mut digits = Digits::new();
-        let steps = digits.format(self.steps).as_bytes();
-        buffer.put_all(sink, &[b":", steps])
+        put_number(buffer, sink, b":", self.steps)
     }
 }
 
@@ -381,17 +385,6 @@ fn put_block<K: Sink>(
     put_body(buffer, sink, block, version)
 }
 
-/// Writes the block of an output in a text of this version, or a front of it where the sink fails.
-fn write_block_in<K: Sink>(sink: &mut K, block: &Block, version: Version) -> Result<(), Failed>
-    ensures ok { OnOk result (Gains (K.got sink.old) (K.got sink.new) (block_text version (parts_of_block block.now))) }
-    ensures front { GainsFront (K.got sink.old) (K.got sink.new) (block_text version (parts_of_block block.now)) }
-    ensures cause { HasCause (K.faults sink.old) (K.faults sink.new) result }
-{
-    let mut buffer = Buffer::new();
-    put_block(&mut buffer, sink, block, version)?;
-    buffer.flush(sink)
-}
-
 /// Writes the block of an output in a text of version 2, or a front of it where the sink fails.
 pub fn write_block<K: Sink>(sink: &mut K, block: &Block) -> Result<(), Failed>
     requires { IsBlock Two (parts_of_block block.now) }
@@ -399,7 +392,9 @@ pub fn write_block<K: Sink>(sink: &mut K, block: &Block) -> Result<(), Failed>
     ensures front { GainsFront (K.got sink.old) (K.got sink.new) (block_text Two (parts_of_block block.now)) }
     ensures cause { HasCause (K.faults sink.old) (K.faults sink.new) result }
 {
-    write_block_in(sink, block, Version::Two)
+    let mut buffer = Buffer::new();
+    put_block(&mut buffer, sink, block, Version::Two)?;
+    buffer.flush(sink)
 }
 
 /// Puts the first line of a report.
@@ -446,22 +441,6 @@ fn put_head<K: Sink>(
     put_rails(buffer, sink, version, rails)
 }
 
-/// Writes the lines before the blocks, or a front of them where the sink fails.
-fn write_head_in<K: Sink>(
-    sink: &mut K,
-    version: Version,
-    rails: u32,
-    names: &[Name],
-) -> Result<(), Failed>
-    ensures ok { OnOk result (Gains (K.got sink.old) (K.got sink.new) (head_text version rails (map bytes_of names.now))) }
-    ensures front { GainsFront (K.got sink.old) (K.got sink.new) (head_text version rails (map bytes_of names.now)) }
-    ensures cause { HasCause (K.faults sink.old) (K.faults sink.new) result }
-{
-    let mut buffer = Buffer::new();
-    put_head(&mut buffer, sink, version, rails, names)?;
-    buffer.flush(sink)
-}
-
 /// Writes the three lines before the blocks of a text of version 2, with one to ten names and rails of at most
 /// `ALL_RAILS`, or a front of them where the sink fails.
 pub fn write_head<K: Sink>(
@@ -475,7 +454,9 @@ pub fn write_head<K: Sink>(
     ensures front { GainsFront (K.got sink.old) (K.got sink.new) (head_text Two rails (map bytes_of names.now.keys)) }
     ensures cause { HasCause (K.faults sink.old) (K.faults sink.new) result }
 {
-    write_head_in(sink, Version::Two, rails, names.as_slice())
+    let mut buffer = Buffer::new();
+    put_head(&mut buffer, sink, Version::Two, rails, names.as_slice())?;
+    buffer.flush(sink)
 }
 
 /// Writes the last line, or a front of it where the sink fails.
@@ -487,16 +468,28 @@ pub fn write_end<K: Sink>(sink: &mut K) -> Result<(), Failed>
     write_all(sink, b"end\n")
 }
 
-/// Writes blocks, or a front of them where the sink fails.
-fn write_blocks<K: Sink>(sink: &mut K, blocks: &[Block], version: Version) -> Result<(), Failed>
-    ensures ok { OnOk result (Gains (K.got sink.old) (K.got sink.new) (blocks_text version (map parts_of_block blocks.now))) }
-    ensures front { GainsFront (K.got sink.old) (K.got sink.new) (blocks_text version (map parts_of_block blocks.now)) }
-    ensures cause { HasCause (K.faults sink.old) (K.faults sink.new) result }
+/// Puts the lines of blocks.
+fn put_blocks<K: Sink>(
+    buffer: &mut Buffer,
+    sink: &mut K,
+    blocks: &[Block],
+    version: Version,
+) -> Result<(), Failed>
+    ensures { Puts (K.got sink.old) (K.got sink.new) buffer.old buffer.new (K.faults sink.old) (K.faults sink.new) result (flat_map (λ b. block_text version (parts_of_block b)) blocks.now) }
 {
     for block in blocks {
-        write_block_in(sink, block, version)?;
+        put_block(buffer, sink, block, version)?;
     }
     Ok(())
+}
+
+/// Puts the lines of a report.
+fn put_report<K: Sink>(buffer: &mut Buffer, sink: &mut K, report: &Report) -> Result<(), Failed>
+    ensures { Puts (K.got sink.old) (K.got sink.new) buffer.old buffer.new (K.faults sink.old) (K.faults sink.new) result (report_text (parts_of_report report.now)) }
+{
+    put_head(buffer, sink, report.version, report.rails, &report.input_names)?;
+    put_blocks(buffer, sink, &report.blocks, report.version)?;
+    buffer.put(sink, b"end\n")
 }
 
 /// Writes a report as a text of its version, or a front of it where the sink fails.
@@ -506,7 +499,7 @@ pub fn write_report<K: Sink>(sink: &mut K, report: &Report) -> Result<(), Failed
     ensures front { GainsFront (K.got sink.old) (K.got sink.new) (report_text (parts_of_report report.now)) }
     ensures cause { HasCause (K.faults sink.old) (K.faults sink.new) result }
 {
-    write_head_in(sink, report.version, report.rails, &report.input_names)?;
-    write_blocks(sink, &report.blocks, report.version)?;
-    write_end(sink)
+    let mut buffer = Buffer::new();
+    put_report(&mut buffer, sink, report)?;
+    buffer.flush(sink)
 }

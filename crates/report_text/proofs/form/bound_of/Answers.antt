@@ -13,4 +13,4 @@ pub returns-else-least-area : goal.returns-else-least-area
 returns-else-least-area c =
     no_bound-area _ _ _ _ _ _ c.in_ok-least.least c.in_ok-at.at c.in_ok-after.after c.in_ok-line.ensures c.in_ok-least.ensures.1 c.in_ok-line-2.ensures
     (c.word_at.ensures ∙ ap (λ w. w ∷ words_left c.word_at.result.1) c.in_ok-at.ensures.1 ∙ ap (λ o. size_text c.in_ok-at.at ∷ words_left o) c.in_ok-rest.was) c.in_ok-line-3.ensures c.in_ok-after.ensures.1
-    (omega arith) c.in_ok-at.ensures.0 (rw c.area.ensures at c.if-least-area.false)
+    (let few = c.in_ok-least.ensures.0 in omega (arith, few)) c.in_ok-at.ensures.0 (rw c.area.ensures at c.if-least-area.false)
