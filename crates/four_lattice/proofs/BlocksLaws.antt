@@ -7,6 +7,7 @@ use Rattle.lattice_grid.specs.Lattice.{Lattice}
 use Rattle.pla_reader.specs.declared.name.Name.{Name}
 use Rattle.pla_reader.specs.Names.{bytes_of}
 use Rattle.report_text.specs.declared.answer.Answer.TheVariants.{Found}
+use Rattle.report_text.specs.declared.answer.Version.TheVariants.{Two}
 use Rattle.report_text.specs.Report.{ReportParts, block_text, blocks_text, head_text, report_text}
 use Rattle.wire_io.specs.Told.{Gains, GainsFront}
 use Rattle.wire_io.specs.Laws.{Gains-append, GainsFront-append, GainsFront-more}
@@ -15,23 +16,23 @@ use Rattle.four_lattice.specs.declared.lattices.Construction.{Construction}
 
 -- the text of the blocks from place i of these lists on, which is output first + i
 abbrev pub blocks_after : Construction → ℕ → ℕ → List Name → List Function → List ℕ
-blocks_after how first i names specs = blocks_text (blocks_by how (first + i) (map bytes_of (drop i names)) (drop i specs))
+blocks_after how first i names specs = blocks_text Two (blocks_by how (first + i) (map bytes_of (drop i names)) (drop i specs))
 
 pub blocks_after-next : (how : Construction) (first : ℕ) (names : List Name) (specs : List Function) (i : ℕ) (name copy : Name) (f : Function) (grid : Lattice)
     → i < length names → i < length specs
     → name ≡ get_or names i name → bytes_of copy ≡ bytes_of name → f ≡ get_or specs i f → grid ≡ made_by how f
-    → blocks_after how first i names specs ≡ block_text (record { output = first + i; name = bytes_of copy; answer = Found grid }) ++ blocks_after how first (i + 1) names specs
+    → blocks_after how first i names specs ≡ block_text Two (record { output = first + i; name = bytes_of copy; answer = Found grid; proofs = [] }) ++ blocks_after how first (i + 1) names specs
 blocks_after-next how first names specs i name copy f grid p q name_is same f_is made =
     let k = first + i in
     let next : suc (first + i) ≡ first + (i + 1) = omega arith in
-    ap (λ ns. blocks_text (blocks_by how k (map bytes_of ns) (drop i specs))) (drop-cons names i name p)
-    ∙ ap (λ fs. blocks_text (blocks_by how k (bytes_of (get_or names i name) ∷ map bytes_of (drop (suc i) names)) fs)) (drop-cons specs i f q)
-    ∙ ap (λ n. block_text (record { output = k; name = bytes_of n; answer = Found (made_by how (get_or specs i f)) }) ++ blocks_text (blocks_by how (suc k) (map bytes_of (drop (suc i) names)) (drop (suc i) specs))) (sym name_is)
-    ∙ ap (λ n. block_text (record { output = k; name = n; answer = Found (made_by how (get_or specs i f)) }) ++ blocks_text (blocks_by how (suc k) (map bytes_of (drop (suc i) names)) (drop (suc i) specs))) (sym same)
-    ∙ ap (λ g. block_text (record { output = k; name = bytes_of copy; answer = Found (made_by how g) }) ++ blocks_text (blocks_by how (suc k) (map bytes_of (drop (suc i) names)) (drop (suc i) specs))) (sym f_is)
-    ∙ ap (λ g. block_text (record { output = k; name = bytes_of copy; answer = Found g }) ++ blocks_text (blocks_by how (suc k) (map bytes_of (drop (suc i) names)) (drop (suc i) specs))) (sym made)
-    ∙ ap (λ n. block_text (record { output = k; name = bytes_of copy; answer = Found grid }) ++ blocks_text (blocks_by how n (map bytes_of (drop (suc i) names)) (drop (suc i) specs))) next
-    ∙ ap (λ n. block_text (record { output = k; name = bytes_of copy; answer = Found grid }) ++ blocks_text (blocks_by how (first + (i + 1)) (map bytes_of (drop n names)) (drop n specs))) (sym (add-one i))
+    ap (λ ns. blocks_text Two (blocks_by how k (map bytes_of ns) (drop i specs))) (drop-cons names i name p)
+    ∙ ap (λ fs. blocks_text Two (blocks_by how k (bytes_of (get_or names i name) ∷ map bytes_of (drop (suc i) names)) fs)) (drop-cons specs i f q)
+    ∙ ap (λ n. block_text Two (record { output = k; name = bytes_of n; answer = Found (made_by how (get_or specs i f)); proofs = [] }) ++ blocks_text Two (blocks_by how (suc k) (map bytes_of (drop (suc i) names)) (drop (suc i) specs))) (sym name_is)
+    ∙ ap (λ n. block_text Two (record { output = k; name = n; answer = Found (made_by how (get_or specs i f)); proofs = [] }) ++ blocks_text Two (blocks_by how (suc k) (map bytes_of (drop (suc i) names)) (drop (suc i) specs))) (sym same)
+    ∙ ap (λ g. block_text Two (record { output = k; name = bytes_of copy; answer = Found (made_by how g); proofs = [] }) ++ blocks_text Two (blocks_by how (suc k) (map bytes_of (drop (suc i) names)) (drop (suc i) specs))) (sym f_is)
+    ∙ ap (λ g. block_text Two (record { output = k; name = bytes_of copy; answer = Found g; proofs = [] }) ++ blocks_text Two (blocks_by how (suc k) (map bytes_of (drop (suc i) names)) (drop (suc i) specs))) (sym made)
+    ∙ ap (λ n. block_text Two (record { output = k; name = bytes_of copy; answer = Found grid; proofs = [] }) ++ blocks_text Two (blocks_by how n (map bytes_of (drop (suc i) names)) (drop (suc i) specs))) next
+    ∙ ap (λ n. block_text Two (record { output = k; name = bytes_of copy; answer = Found grid; proofs = [] }) ++ blocks_text Two (blocks_by how (first + (i + 1)) (map bytes_of (drop n names)) (drop n specs))) (sym (add-one i))
 
 -- the blocks from output k on are those of the names and functions from there on
 drop-blocks : (how : Construction) (i k : ℕ) (names : List (List ℕ)) (specs : List Function) → length names ≡ length specs → drop k (blocks_by how i names specs) ≡ blocks_by how (i + k) (drop k names) (drop k specs)
@@ -56,33 +57,33 @@ chosen-one how k names specs same =
     ∙ ap (λ ns. blocks_by how k (take 1 ns) (take 1 (drop k specs))) (drop-map bytes_of k names)
     ∙ ap (λ ns. blocks_by how k ns (take 1 (drop k specs))) (take-map bytes_of 1 (drop k names))
 
-pub report-head : (report : ReportParts) (a b : Option (List ℕ)) → GainsFront a b (head_text report.input_names) → GainsFront a b (report_text report)
+pub report-head : (report : ReportParts) (a b : Option (List ℕ)) → GainsFront a b (head_text report.version report.rails report.input_names) → GainsFront a b (report_text report)
 unfolding report_text
-report-head report a b h = GainsFront-more a b (head_text report.input_names) (blocks_text report.blocks ++ codes "end\n") h
+report-head report a b h = GainsFront-more a b (head_text report.version report.rails report.input_names) (blocks_text report.version report.blocks ++ codes "end\n") h
 
-pub report-blocks : (report : ReportParts) (a b c : Option (List ℕ)) → Gains a b (head_text report.input_names) → GainsFront b c (blocks_text report.blocks) → GainsFront a c (report_text report)
+pub report-blocks : (report : ReportParts) (a b c : Option (List ℕ)) → Gains a b (head_text report.version report.rails report.input_names) → GainsFront b c (blocks_text report.version report.blocks) → GainsFront a c (report_text report)
 unfolding report_text
 report-blocks report a b c h now =
-    GainsFront-append a b c (head_text report.input_names) (blocks_text report.blocks ++ codes "end\n") h (GainsFront-more b c (blocks_text report.blocks) (codes "end\n") now)
+    GainsFront-append a b c (head_text report.version report.rails report.input_names) (blocks_text report.version report.blocks ++ codes "end\n") h (GainsFront-more b c (blocks_text report.version report.blocks) (codes "end\n") now)
 
-pub report-end : (report : ReportParts) (a b c d : Option (List ℕ)) → Gains a b (head_text report.input_names) → Gains b c (blocks_text report.blocks) → GainsFront c d (codes "end\n") → GainsFront a d (report_text report)
+pub report-end : (report : ReportParts) (a b c d : Option (List ℕ)) → Gains a b (head_text report.version report.rails report.input_names) → Gains b c (blocks_text report.version report.blocks) → GainsFront c d (codes "end\n") → GainsFront a d (report_text report)
 unfolding report_text
 report-end report a b c d h h2 now =
-    GainsFront-append a b d (head_text report.input_names) (blocks_text report.blocks ++ codes "end\n") h (GainsFront-append b c d (blocks_text report.blocks) (codes "end\n") h2 now)
+    GainsFront-append a b d (head_text report.version report.rails report.input_names) (blocks_text report.version report.blocks ++ codes "end\n") h (GainsFront-append b c d (blocks_text report.version report.blocks) (codes "end\n") h2 now)
 
-pub report-whole : (report : ReportParts) (a b c d : Option (List ℕ)) → Gains a b (head_text report.input_names) → Gains b c (blocks_text report.blocks) → Gains c d (codes "end\n") → Gains a d (report_text report)
+pub report-whole : (report : ReportParts) (a b c d : Option (List ℕ)) → Gains a b (head_text report.version report.rails report.input_names) → Gains b c (blocks_text report.version report.blocks) → Gains c d (codes "end\n") → Gains a d (report_text report)
 unfolding report_text
 report-whole report a b c d h h2 now =
-    Gains-append a b d (head_text report.input_names) (blocks_text report.blocks ++ codes "end\n") h (Gains-append b c d (blocks_text report.blocks) (codes "end\n") h2 now)
+    Gains-append a b d (head_text report.version report.rails report.input_names) (blocks_text report.version report.blocks ++ codes "end\n") h (Gains-append b c d (blocks_text report.version report.blocks) (codes "end\n") h2 now)
 
 -- the text of the block of the chosen output, by slices of one name and one function
 pub chosen-slices : (how : Construction) (output : Option ℕ) (k : ℕ) (names keys : List Name) (specs items : List Function) → output ≡ Some k → names ≡ keys → specs ≡ items
     → length (map bytes_of keys) ≡ length items
-    → blocks_text (blocks_by how k (map bytes_of (take (k + 1 - k) (drop k names))) (take (k + 1 - k) (drop k specs))) ≡ blocks_text (chosen output (blocks_by how 0 (map bytes_of keys) items))
+    → blocks_text Two (blocks_by how k (map bytes_of (take (k + 1 - k) (drop k names))) (take (k + 1 - k) (drop k specs))) ≡ blocks_text Two (chosen output (blocks_by how 0 (map bytes_of keys) items))
 chosen-slices how output k names keys specs items is names_are specs_are same =
     let one : k + 1 - k ≡ 1 = omega arith in
-    ap (λ n. blocks_text (blocks_by how k (map bytes_of (take n (drop k names))) (take n (drop k specs)))) one
-    ∙ ap (λ ns. blocks_text (blocks_by how k (map bytes_of (take 1 (drop k ns))) (take 1 (drop k specs)))) names_are
-    ∙ ap (λ fs. blocks_text (blocks_by how k (map bytes_of (take 1 (drop k keys))) (take 1 (drop k fs)))) specs_are
-    ∙ ap blocks_text (sym (chosen-one how k keys items (sym (length-map keys bytes_of) ∙ same)))
-    ∙ ap (λ o. blocks_text (chosen o (blocks_by how 0 (map bytes_of keys) items))) (sym is)
+    ap (λ n. blocks_text Two (blocks_by how k (map bytes_of (take n (drop k names))) (take n (drop k specs)))) one
+    ∙ ap (λ ns. blocks_text Two (blocks_by how k (map bytes_of (take 1 (drop k ns))) (take 1 (drop k specs)))) names_are
+    ∙ ap (λ fs. blocks_text Two (blocks_by how k (map bytes_of (take 1 (drop k keys))) (take 1 (drop k fs)))) specs_are
+    ∙ ap (blocks_text Two) (sym (chosen-one how k keys items (sym (length-map keys bytes_of) ∙ same)))
+    ∙ ap (λ o. blocks_text Two (chosen o (blocks_by how 0 (map bytes_of keys) items))) (sym is)

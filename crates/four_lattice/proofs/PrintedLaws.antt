@@ -7,13 +7,22 @@ use Rattle.cube_core.specs.Function.{Function, IsFunction}
 use Rattle.lattice_grid.specs.Lattice.{IsOver}
 use Rattle.lattice_grid.specs.Realise.{Realises}
 use Rattle.lattice_grid.specs.Pairs.{pairs_of}
+use Rattle.lattice_grid.specs.Lattice.{Lattice}
+use Rattle.lattice_grid.proofs.RailsLaws.{all_bits}
+use Rattle.lattice_grid.proofs.StartLaws.{over_full}
 use Rattle.lattice_grid.proofs.RealiseLaws.{pairs_of-Realises, IsOver-read}
 use Rattle.dual_product.proofs.DualLaws.{dual_of-Realises, dual_of-IsOver}
 use Rattle.pla_reader.specs.Parts.{Parts, IsPla}
 use Rattle.report_text.specs.declared.answer.Answer.TheVariants.{Found}
+use Rattle.std.specs.Prelude.{IfSome}
+use Rattle.lattice_grid.specs.Rails.{IsOverRails}
+use Rattle.path_meaning.specs.Defective.{RealisesIn}
+use Rattle.path_meaning.proofs.Plainly.{realising_plainly}
+use Rattle.report_text.specs.declared.answer.Version.TheVariants.{Two}
+use Rattle.report_text.specs.Form.{lattice_of}
 use Rattle.report_text.specs.Report.{BlockParts}
 use Rattle.four_lattice.specs.Lattices.{made_by, blocks_by, report_by}
-use Rattle.four_lattice.specs.Verified.{lattice_in, least_output, IsRight, AreRight, IsVerified}
+use Rattle.four_lattice.specs.Verified.{Basis, array_in, least_output, IsRight, AreRight, IsVerified}
 use Rattle.four_lattice.specs.declared.lattices.Construction.{Construction}
 use Rattle.four_lattice.specs.declared.lattices.Construction.TheVariants.{Pairs, Dual}
 use Rattle.four_lattice.proofs.VerifiedLaws.{cut_front, cut_rest, least_output-push}
@@ -48,7 +57,7 @@ block_made how first [] functions (suc k) block rest e = absurd (no_cons block r
 block_made how first (name ∷ names) [] zero block rest e = absurd (no_cons block rest e)
 block_made how first (name ∷ names) [] (suc k) block rest e = absurd (no_cons block rest e)
 block_made how first (name ∷ names) (f ∷ functions) zero block rest e =
-    let is = head_is (record { output = first; name = name; answer = Found (made_by how f) }) block (blocks_by how (suc first) names functions) rest e in
+    let is = head_is (record { output = first; name = name; answer = Found (made_by how f); proofs = [] }) block (blocks_by how (suc first) names functions) rest e in
     record {
       function = f;
       output = sym (ap (λ b. b.output) is) ∙ sym (add-zero first);
@@ -70,8 +79,16 @@ all_at P fs k f all e =
     let same : Some (get_or fs k f) ≡ Some f = sym (slice_get-get_or fs k f within) ∙ e in
     subst P (some_is (get_or fs k f) f same) (all k f within)
 
+-- over the inputs, and so over all literals
+over_all : (n : ℕ) (g : Lattice) → n ≤ 10 → IsOver n g → IsOverRails n 1048575 g
+over_all n g few h = (over_full n 1048575 g (λ i within. all_bits i (omega (arith, few, within)))).0 h
+
+-- a PLA, and a text of version 2 with all literals allowed
+abbrev with_all : Parts → Basis
+with_all parts = record { parts = parts; version = Two; rails = 1048575 }
+
 -- a block that is made of the PLA's names and functions is right where it may stand
-made_right : (how : Construction) (parts : Parts) (k least : ℕ) (block : BlockParts) → IsPla parts → IsMade how 0 parts.output_names parts.functions k block → least ≤ k → IsRight parts least block
+made_right : (how : Construction) (parts : Parts) (k least : ℕ) (block : BlockParts) → IsPla parts → IsMade how 0 parts.output_names parts.functions k block → least ≤ k → IsRight (with_all parts) least block
 made_right how parts k least block pla h low =
     let f = h.function in
     let place : block.output ≡ k = h.output ∙ zero-add k in
@@ -84,8 +101,9 @@ made_right how parts k least block pla h low =
         name = ap (slice_get parts.output_names) place ∙ h.name;
         function = ap (slice_get parts.functions) place ∙ h.function_is;
       };
-      over = subst (λ a. IsOver parts.inputs (lattice_in a)) (sym h.answer) (subst (λ n. IsOver n (made_by how f)) inputs (made_by-IsOver how f kept));
-      realises = subst (λ a. Realises (lattice_in a) f) (sym h.answer) (made_by-Realises how f kept);
+      over = subst (λ a. IfSome (lattice_of a) (IsOverRails parts.inputs 1048575)) (sym h.answer)
+          (subst (λ n. IsOverRails n 1048575 (made_by how f)) inputs (over_all f.inputs (made_by how f) kept.few (made_by-IsOver how f kept)));
+      realises = subst (λ a. IfSome (lattice_of a) (λ g. RealisesIn g f (array_in a))) (sym h.answer) ((realising_plainly (made_by how f) f).1 (made_by-Realises how f kept));
     }
 
 -- the block at a place, and the blocks before it
@@ -115,7 +133,7 @@ least_before how names functions (suc k) few =
 
 -- all blocks
 all_right : (how : Construction) (parts : Parts) → IsPla parts
-    → AreRight parts (blocks_by how 0 parts.output_names parts.functions) (length (blocks_by how 0 parts.output_names parts.functions))
+    → AreRight (with_all parts) (blocks_by how 0 parts.output_names parts.functions) (length (blocks_by how 0 parts.output_names parts.functions))
 all_right how parts pla before block rest whole few =
     let all = blocks_by how 0 parts.output_names parts.functions in
     let made = block_made how 0 parts.output_names parts.functions (length before) block rest (cut_rest all before rest block whole) in
@@ -132,7 +150,7 @@ one_at (x ∷ xs) (b ∷ before) rest block e =
     let sum = length-append before (block ∷ rest) in
     absurd (omega (arith, long, sum))
 
-one_right : (how : Construction) (k : ℕ) (parts : Parts) → IsPla parts → (many : ℕ) → AreRight parts (take 1 (drop k (blocks_by how 0 parts.output_names parts.functions))) many
+one_right : (how : Construction) (k : ℕ) (parts : Parts) → IsPla parts → (many : ℕ) → AreRight (with_all parts) (take 1 (drop k (blocks_by how 0 parts.output_names parts.functions))) many
 one_right how k parts pla many before block rest whole few =
     let all = blocks_by how 0 parts.output_names parts.functions in
     let one = one_at (drop k all) before rest block whole in

@@ -9,7 +9,7 @@ use wire_io::memory::{MemorySink, MemorySource};
 /// The text of the conjunction of two inputs, and its report.
 const AND: &str = ".i 2\n.o 1\n11 1\n.e\n";
 
-const AND_REPORT: &str = "lattice report 1\ninputs x0 x1\noutput 0 f0 found 3x1\nx0\nx1\nx0\nend\n";
+const AND_REPORT: &str = "lattice report 2\ninputs x0 x1\nrails 1048575\noutput 0 f0 found 3x1\nx0\nx1\nx0\nend\n";
 
 /// The words of the command.
 const PAIRS: &[&str] = &["pairs"];
@@ -23,41 +23,41 @@ fn texts(rt: HostRuntime) -> Result<(), Fail> {
             PAIRS,
             ".i 1\n.o 2\n- 10\n.e\nrest",
             "",
-            "lattice report 1\ninputs x0\noutput 0 f0 found 1x1\n1\noutput 1 f1 found 1x1\n0\nend\n",
+            "lattice report 2\ninputs x0\nrails 1048575\noutput 0 f0 found 1x1\n1\noutput 1 f1 found 1x1\n0\nend\n",
         ),
         // Parity of two inputs: two off assignments, 0 and 3, and two on assignments, 1 and 2.
         done(
             PAIRS,
             ".i 2\n.o 1\n10 1\n01 1\n.e\n",
             "",
-            "lattice report 1\ninputs x0 x1\noutput 0 f0 found 2x2\nx0 x1\nx1' x0'\nend\n",
+            "lattice report 2\ninputs x0 x1\nrails 1048575\noutput 0 f0 found 2x2\nx0 x1\nx1' x0'\nend\n",
         ),
         // Neither on nor off.
         done(
             PAIRS,
             ".i 2\n.o 1\n.type fr\n.e\n",
             "",
-            "lattice report 1\ninputs x0 x1\noutput 0 f0 found 1x1\n0\nend\n",
+            "lattice report 2\ninputs x0 x1\nrails 1048575\noutput 0 f0 found 1x1\n0\nend\n",
         ),
         done(
             PAIRS,
             ".i 2\n.o 1\n.type fr\n11 1\n00 0\n.e\n",
             "",
-            "lattice report 1\ninputs x0 x1\noutput 0 f0 found 1x1\nx0\nend\n",
+            "lattice report 2\ninputs x0 x1\nrails 1048575\noutput 0 f0 found 1x1\nx0\nend\n",
         ),
         // A don't-care wins over on, and nothing is off.
         done(
             PAIRS,
             ".i 2\n.o 1\n.type fdr\n1- 1\n11 -\n.e\n",
             "",
-            "lattice report 1\ninputs x0 x1\noutput 0 f0 found 1x1\n1\nend\n",
+            "lattice report 2\ninputs x0 x1\nrails 1048575\noutput 0 f0 found 1x1\n1\nend\n",
         ),
         // As another tool writes it: Windows line ends, tabs, comments, a count of rows, names, a bar between the planes, no last line.
         done(
             PAIRS,
             "# one\r\n.i\t2\r\n.o 1 # two\r\n.ilb a b\r\n.ob\tf\r\n.p 1\r\n.type fd\r\n1 1|4\r\n",
             "",
-            "lattice report 1\ninputs a b\noutput 0 f found 3x1\nx0\nx1\nx0\nend\n",
+            "lattice report 2\ninputs a b\nrails 1048575\noutput 0 f found 3x1\nx0\nx1\nx0\nend\n",
         ),
     ];
     for row in &rows {

@@ -82,6 +82,49 @@ fn reports(rt: HostRuntime) -> Result<(), Fail> {
     Ok(())
 }
 
+#[test]
+fn reports_of_version_2(rt: HostRuntime) -> Result<(), Fail> {
+    let rows = [
+        done(
+            VERIFY,
+            AND,
+            "lattice report 2\ninputs x0 x1\nrails 1048575\noutput 0 f0 minimum 2x1\nx1\nx0\nrefuted 1x1:1\nend\n",
+            "realised 1\n",
+        ),
+        done(
+            VERIFY,
+            AND,
+            "lattice report 2\ninputs x0 x1\nrails 1048575\noutput 0 f0 mapped 2x2 .o/.o\nx0 x1\nx1 x0\nend\n",
+            "realised 1\n",
+        ),
+        done(
+            VERIFY,
+            AND,
+            "lattice report 2\ninputs x0 x1\nrails 1\noutput 0 f0 norails 3 1\nend\n",
+            "realised 1\n",
+        ),
+        unconfirmed(
+            AND,
+            "lattice report 2\ninputs x0 x1\nrails 1048575\noutput 0 f0 mapped 2x1 c/.\nx0\nx1\nend\n",
+            "not confirmed: Wrong at line 4 assignment 2\n",
+        ),
+        unconfirmed(
+            AND,
+            "lattice report 2\ninputs x0 x1\nrails 1\noutput 0 f0 found 2x1\nx1\nx0\nend\n",
+            "not confirmed: Literal at line 4\n",
+        ),
+        unconfirmed(
+            TWO,
+            "lattice report 2\ninputs x0 x1\nrails 1048575\noutput 0 f0 minimum 2x1\nx1\nx0\nrefuted\noutput 0 f0 none 1x1 .\nrefuted\nend\n",
+            "not confirmed: Output at line 8\n",
+        ),
+    ];
+    for row in &rows {
+        try_row(&rt, rt.alloc(), row)?;
+    }
+    Ok(())
+}
+
 /// A row whose side file is refused.
 fn refused_side(side: &'static str, notes: &'static str) -> Row {
     refused(VERIFY, AND, side, Status::Side, notes)
@@ -95,7 +138,19 @@ fn refused_sides(rt: HostRuntime) -> Result<(), Fail> {
             "lattice report 1\ninputs x0 x1\noutput 0 f0 found 3x1\nx0 x0\nx1\nx0\nend\n",
             "side refused: Grid at line 4\n",
         ),
-        refused_side("lattice report 2\n", "side refused: Header at line 1\n"),
+        refused_side("lattice report 3\n", "side refused: Header at line 1\n"),
+        refused_side(
+            "lattice report 2\ninputs x0 x1\nend\n",
+            "side refused: Rails at line 3\n",
+        ),
+        refused_side(
+            "lattice report 2\ninputs x0 x1\nrails 1048576\nend\n",
+            "side refused: Rails at line 3\n",
+        ),
+        refused_side(
+            "lattice report 2\ninputs x0 x1\nrails 1048575\noutput 0 f0 minimum 2x1\nx1\nx0\nend\n",
+            "side refused: Proofs at line 7\n",
+        ),
         refused_side(
             "lattice report 1\ninputs\n",
             "side refused: Inputs at line 2\n",
