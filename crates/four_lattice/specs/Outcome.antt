@@ -106,7 +106,7 @@ LacksFunction output parts ending = (slice_get parts.functions output ≡ None) 
 
 -- what is asked of a size and a function, on no array
 abbrev pub question_of : Size → Function → Question
-question_of size f = record { function = f; size = size; array = None }
+question_of size f = record { function = f; rails = 1048575; size = size; array = None }
 
 -- The work is done with this text.
 abbrev pub IsDone : List ℕ → Outcome → Type 0

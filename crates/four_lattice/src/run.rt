@@ -23,6 +23,7 @@ use clause_core::formula::Formula;
 use clause_core::write::write_cnf;
 use cube_core::spec::Spec;
 use itoa::Buffer;
+use lattice_grid::rails::Rails;
 use lattice_grid::shape::Shape;
 use lrat_replay::replay::Replay;
 use pla_reader::pla::Pla;
@@ -82,7 +83,7 @@ fn write_encoding<K: Sink>(
     ensures later { K.faults out.old ≤ K.faults out.new }
     ensures cause { IfErr result (IsWriteCause (K.faults out.old) (K.faults out.new)) }
 {
-    let formula = encode(alloc, spec, shape, None)?;
+    let formula = encode(alloc, spec, Rails::all(), shape, None)?;
     write_cnf(&formula, out)?;
     Ok(())
 }
