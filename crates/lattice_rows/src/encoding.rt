@@ -8,10 +8,13 @@ use four_lattice::status::Status;
 use lattice_grid::array::{Array, Defect};
 use lattice_grid::control::Control;
 use lattice_grid::pairs::pairs;
+use lattice_grid::rails::Rails;
 use lattice_grid::shape::{Place, Shape};
 use reach_encoding::decode::decode;
 use reach_encoding::encode::encode;
+use reach_encoding::laws::read;
 use reach_encoding::model::model_of;
+use std::alloc::{AllocError, Global};
 use std::test::Fail;
 
 /// One input, and an output that is that input.
@@ -89,8 +92,8 @@ fn a_lattice_is_a_solution(rt: HostRuntime) -> Result<(), Fail> {
     let grid = pairs(alloc, &spec)?;
     assert_eq!(rt; grid.shape().rows(), 2);
     assert_eq!(rt; grid.shape().cols(), 2);
-    let formula = encode(alloc, &spec, grid.shape(), None)?;
-    let values = model_of(alloc, &spec, &grid, None)?;
+    let formula = encode(alloc, &spec, Rails::all(), grid.shape(), None)?;
+    let values = model_of(alloc, &spec, Rails::all(), &grid, None)?;
     assert_eq!(rt; formula.vars(), 56);
     assert_eq!(rt; values.vars(), 56);
     assert!(rt; formula.satisfied_by(&values));
@@ -111,7 +114,7 @@ fn stuck_cells(rt: HostRuntime) -> Result<(), Fail> {
     let spec = conjunction().ok_or("a function")?;
     // Two cells have a control; the closed one has a value at each of four assignments, the sound one for each of six controls;
     // marks take four clauses at each of three off assignments, and six at the on assignment.
-    let formula = encode(alloc, &spec, shape, Some(&closed))?;
+    let formula = encode(alloc, &spec, Rails::all(), shape, Some(&closed))?;
     assert_eq!(rt; formula.vars(), 28);
     assert_eq!(rt; formula.count(), 2 + 4 + 24 + 12 + 6);
     Ok(())
@@ -125,8 +128,58 @@ fn the_first_chosen_controls_are_read(rt: HostRuntime) -> Result<(), Fail> {
     values[0] = false;
     values[1] = false;
     values[2] = false;
-    let grid = decode(alloc, 1, shape, &Valuation::new(values))?;
+    let grid = decode(alloc, 1, Rails::all(), shape, &Valuation::new(values))?;
     assert_eq!(rt; grid.at(Place { row: 0, col: 0 }), Control::Bar(0));
     assert_eq!(rt; grid.at(Place { row: 1, col: 0 }), Control::Zero);
+    Ok(())
+}
+
+/// How many variables say what is chosen at four cells of six controls, and how many the values at four assignments bring it to.
+const CHOICES: usize = 24;
+
+const VALUES: usize = 40;
+
+/// A solution for the conjunction on four cells of which those on the right are stuck open: `x0` above `x1` at the left, and
+/// `0` at the right.
+fn solution(alloc: Global) -> Result<Valuation, AllocError> {
+    let mut values = vec![in alloc; false; 56]?;
+    for choice in [2, 6, 16, 18] {
+        values[choice] = true;
+    }
+    // The first cell is on at assignments 1 and 3, the third one at 2 and 3.
+    for value in [4, 10, 12, 14] {
+        values[CHOICES + value] = true;
+    }
+    // At assignment 1 the first cell is marked from above; at 3 no cell of the left column is off.
+    values[VALUES + 4] = true;
+    Ok(Valuation::new(values))
+}
+
+#[test]
+fn a_lattice_on_stuck_cells(rt: HostRuntime) -> Result<(), Fail> {
+    let alloc = rt.alloc();
+    let spec = conjunction().ok_or("a function")?;
+    let rails = Rails::all();
+    let shape = Shape::new(2, 2).ok_or("a shape")?;
+    let defects = vec![in alloc;
+        Defect::Sound,
+        Defect::StuckOpen,
+        Defect::Sound,
+        Defect::StuckOpen,
+    ]?;
+    let array = Array::new(shape, defects).ok_or("an array")?;
+    let formula = encode(alloc, &spec, rails, shape, Some(&array))?;
+    let values = solution(alloc)?;
+    assert!(rt; formula.vars() <= values.vars());
+    assert!(rt; formula.satisfied_by(&values));
+    read();
+    let grid = decode(alloc, spec.inputs(), rails, shape, &values)?;
+    assert_eq!(rt; grid.row(0), [Control::Plain(0), Control::Zero].as_slice());
+    assert_eq!(rt; grid.row(1), [Control::Plain(1), Control::Zero].as_slice());
+    let again = model_of(alloc, &spec, rails, &grid, Some(&array))?;
+    assert!(rt; formula.satisfied_by(&again));
+    let same = decode(alloc, spec.inputs(), rails, shape, &again)?;
+    assert_eq!(rt; same.row(0), grid.row(0));
+    assert_eq!(rt; same.row(1), grid.row(1));
     Ok(())
 }

@@ -36,20 +36,18 @@ fn pairs_of_exclusive_or(rt: HostRuntime) -> Result<(), Fail> {
 
 #[test]
 fn last_row_and_column_once_more(rt: HostRuntime) -> Result<(), Fail> {
-    let cells = [
-        Control::Zero,
-        Control::Plain(3),
-        Control::One,
-        Control::Bar(2),
-    ]
-    .to_vec(rt.alloc())?;
-    let grid = Grid::new(Shape::new(2, 2).ok_or("a shape")?, cells).ok_or("a lattice")?;
+    let cells = [Control::Plain(0), Control::Plain(1)].to_vec(rt.alloc())?;
+    let grid = Grid::new(Shape::new(1, 2).ok_or("a shape")?, cells).ok_or("a lattice")?;
+    let row = [Control::Plain(0), Control::Plain(1)];
     let taller = grid.repeat_row(rt.alloc())?;
-    assert_eq!(rt; taller.row(2), [Control::One, Control::Bar(2)].as_slice());
+    assert_eq!(rt; taller.shape().rows(), 2);
+    assert_eq!(rt; taller.row(0), row.as_slice());
+    assert_eq!(rt; taller.row(1), row.as_slice());
     let wider = grid.repeat_col(rt.alloc())?;
+    assert_eq!(rt; wider.shape().cols(), 3);
     assert_eq!(rt;
         wider.row(0),
-        [Control::Zero, Control::Plain(3), Control::Plain(3)].as_slice()
+        [Control::Plain(0), Control::Plain(1), Control::Plain(1)].as_slice()
     );
     Ok(())
 }

@@ -18,7 +18,11 @@ mod pairs;
 #[cfg(test)]
 mod paths;
 #[cfg(test)]
+mod rails;
+#[cfg(test)]
 mod row;
+#[cfg(test)]
+mod shapes;
 #[cfg(test)]
 mod verify;
 #[cfg(test)]
