@@ -14,7 +14,11 @@ pub fn joins(grid: &Grid, x: Assign, marks: &mut Marks) -> bool
     ensures not_cut { IsTrue result ↔ (Cut grid.now x → ⊥) }
     ensures cells { marks.new ≡ marks.old }
 {
-    let at = At { grid, array: None, x };
+    let at = At {
+        grid,
+        array: None,
+        x,
+    };
     marks.leads_down(&at)
 }
 
@@ -26,6 +30,10 @@ pub fn cut(grid: &Grid, x: Assign, marks: &mut Marks) -> bool
     ensures not_joined { IsTrue result ↔ (Joined grid.now x → ⊥) }
     ensures cells { marks.new ≡ marks.old }
 {
-    let at = At { grid, array: None, x };
+    let at = At {
+        grid,
+        array: None,
+        x,
+    };
     !marks.leads_down(&at)
 }
