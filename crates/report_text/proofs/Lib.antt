@@ -24,3 +24,4 @@ pub mod PartLaws
 pub mod CellsLaws
 pub mod NamesLaws
 pub mod PutLaws
+pub mod BlockLaws

@@ -106,7 +106,7 @@ form_of-with (NoneMapped a) cells = refl
 form_of-with (MapUndecided a n) cells = refl
 form_of-with (NoRails x y) cells = refl
 
-abbrev sized : List Control → Size → Lattice
+abbrev pub sized : List Control → Size → Lattice
 sized cells s = record { size = s; cells = cells }
 
 pub lattice_of-with : (form : Form) (cells : List Control) → lattice_of (answer_with form cells) ≡ option_map (sized cells) (lattice_size form)
