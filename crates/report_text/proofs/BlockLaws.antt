@@ -177,3 +177,14 @@ block_read v bytes text rest after last h cells answer follow ps cut is e has a 
     ∙ sym (text_before (first_line h ∷ lattice_lines (option_map (sized cells) (lattice_size h.form))) (proofs_lines (lists v h.form) ps) last)
     ∙ ap (λ ls. text_of ls ++ last) (sym (made_lines v h cells ps)) ∙ ap (λ z. z ++ last) (text_of-block v (block_with h cells ps)) in
     subst (λ z. HasBlock v bytes (record { output = h.output; name = h.name; answer = z; proofs = ps }) last) (sym a) (record { is_block = made_block v h cells ps made; text = text-is })
+
+-- the place after a block
+pub block_place : (v : Version) (bytes after : List ℕ) (at : ℕ) (block : BlockParts) → HasBlock v (take (length bytes - at) (drop at bytes)) block after → HasBlock v (drop at bytes) block (drop (length bytes - length after) bytes)
+block_place v bytes after at block h =
+    let before : List ℕ = take at bytes ++ block_text v block in
+    let here : drop at bytes ≡ block_text v block ++ after = sym (take_rest bytes at) ∙ h.text in
+    let whole : bytes ≡ before ++ after = sym (take-append-drop at bytes) ∙ ap (λ w. take at bytes ++ w) here ∙ sym (append_assoc (take at bytes) (block_text v block) after) in
+    let long : length bytes ≡ length before + length after = ap length whole ∙ length-append before after in
+    let place : length before ≡ length bytes - length after = omega (arith, long) in
+    let rest : drop (length bytes - length after) bytes ≡ after = ap (drop (length bytes - length after)) whole ∙ drop_at before after (length bytes - length after) place in
+    record { is_block = h.is_block; text = here ∙ ap (λ w. block_text v block ++ w) (sym rest) }

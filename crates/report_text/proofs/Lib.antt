@@ -25,3 +25,4 @@ pub mod CellsLaws
 pub mod NamesLaws
 pub mod PutLaws
 pub mod BlockLaws
+pub mod BlocksLaws
