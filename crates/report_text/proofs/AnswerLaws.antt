@@ -280,3 +280,7 @@ only_fault v text first e given stops h = elim (memory_or_fault e) [
   | inl memory ↦ inl memory
   | inr other ↦ inr (one_fault v text first e given (fault_of v text first e other stops) h)
 ]
+
+pub refused_ok : (text : List ℕ) (r : Result Report ReportRefusal) → MatchResult r (λ report. Gives text (Ok (parts_of_report report))) (λ refusal. Stops report_expected text 1 refusal) → IfErr r (λ refusal. refusal ≢ NoMemory → IsRefused text refusal)
+refused_ok text (Ok report) found = tt
+refused_ok text (Err e) refused = λ other. refused_of text e other refused

@@ -48,7 +48,7 @@ BlocksRead-push v bytes first blocks rest number b after next h has e = record {
 }
 
 -- a line has at least its line feed
-lines_bound : (lines : List Line) → length lines ≤ length (text_of lines)
+pub lines_bound : (lines : List Line) → length lines ≤ length (text_of lines)
 lines_bound [] = omega arith
 lines_bound (l ∷ lines) =
     let more = lines_bound lines in

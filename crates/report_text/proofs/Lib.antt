@@ -26,3 +26,4 @@ pub mod NamesLaws
 pub mod PutLaws
 pub mod BlockLaws
 pub mod BlocksLaws
+pub mod ReportLaws
