@@ -267,3 +267,20 @@ some_block v text first = elim (some_end (length text) (block_expected v) text f
       inl (found.0, whole.rest, record { is_block = found.1; text = whole.text_is ∙ ap (λ z. z ++ whole.rest) (ap text_of found.2 ∙ text_of-block v found.0) })
   | inr (e, within, stops) ↦ inr (block_refusal v text first e within stops)
 ]
+
+-- what a reader of blocks answered is what the bytes give, unless memory ran out
+pub only_block : (v : Version) (text : List ℕ) (first : ℕ) (e : BlockFault) (block : BlockParts) (rest : List ℕ) → Stops (block_expected v) text first (refusal_of e) → HasBlock v text block rest → (e ≡ faults.NoMemory) ⊎ ⊥
+only_block v text first e block rest stops h = elim (memory_or_fault e) [
+  | inl memory ↦ inl memory
+  | inr other ↦ absurd (block_apart v text first block rest e h (fault_of v text first e other stops))
+]
+
+pub only_fault : (v : Version) (text : List ℕ) (first : ℕ) (e given : BlockFault) → Stops (block_expected v) text first (refusal_of e) → IsBlockFault v text first given → (e ≡ faults.NoMemory) ⊎ (e ≡ given)
+only_fault v text first e given stops h = elim (memory_or_fault e) [
+  | inl memory ↦ inl memory
+  | inr other ↦ inr (one_fault v text first e given (fault_of v text first e other stops) h)
+]
+
+pub refused_ok : (text : List ℕ) (r : Result Report ReportRefusal) → MatchResult r (λ report. Gives text (Ok (parts_of_report report))) (λ refusal. Stops report_expected text 1 refusal) → IfErr r (λ refusal. refusal ≢ NoMemory → IsRefused text refusal)
+refused_ok text (Ok report) found = tt
+refused_ok text (Err e) refused = λ other. refused_of text e other refused

@@ -24,3 +24,6 @@ pub mod PartLaws
 pub mod CellsLaws
 pub mod NamesLaws
 pub mod PutLaws
+pub mod BlockLaws
+pub mod BlocksLaws
+pub mod ReportLaws

@@ -56,7 +56,7 @@ pub inputs_of : (cols : ℕ) (rows : List (List Control)) → All (IsRow cols) r
 inputs_of cols [] p = All-nil _
 inputs_of cols (row ∷ rows) p = All-cons (All (NamesBelow 10)) row rows (All-head (IsRow cols) row rows p).inputs (inputs_of cols rows (All-tail (IsRow cols) row rows p))
 
-lattice_lead : (g : Lattice) (later : List Expected) → IsLattice g → Leads (rows_expected g.size ++ later) (lattice_lines (Some g)) later
+pub lattice_lead : (g : Lattice) (later : List Expected) → IsLattice g → Leads (rows_expected g.size ++ later) (lattice_lines (Some g)) later
 lattice_lead g later h =
     let are = rows_of-are (NamesBelow 10) g.size.cols g.size.rows g.cells h.whole h.inputs in
     let rows : List (List Control) = rows_of g.size.cols g.size.rows g.cells in
@@ -106,7 +106,7 @@ form_of-with (NoneMapped a) cells = refl
 form_of-with (MapUndecided a n) cells = refl
 form_of-with (NoRails x y) cells = refl
 
-abbrev sized : List Control → Size → Lattice
+abbrev pub sized : List Control → Size → Lattice
 sized cells s = record { size = s; cells = cells }
 
 pub lattice_of-with : (form : Form) (cells : List Control) → lattice_of (answer_with form cells) ≡ option_map (sized cells) (lattice_size form)

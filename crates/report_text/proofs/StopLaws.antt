@@ -151,7 +151,7 @@ same_whole es xs ys s t wide x y e = elim (compare es [] [] xs ys s t wide x y e
 
 -- ---- lines before
 
-text_before : (front later : List Line) (rest : List ℕ) → text_of (front ++ later) ++ rest ≡ text_of front ++ (text_of later ++ rest)
+pub text_before : (front later : List Line) (rest : List ℕ) → text_of (front ++ later) ++ rest ≡ text_of front ++ (text_of later ++ rest)
 text_before front later rest = ap (λ z. z ++ rest) (flat_map-append (λ l. words_text l.words) front later) ∙ append_assoc (text_of front) (text_of later) rest
 
 count : (first n k a b : ℕ) → n ≡ k + b → k ≡ first + a → n ≡ first + (a + b)

@@ -1,5 +1,5 @@
 //! Blocks are read.
-ghost use Rattle.std.specs.Prelude.{◌≡◌, ◌≢◌, ℕ, ◌+◌, ◌*◌, ◌≤◌, ◌++◌, List, All, MatchResult, MatchOption, IfOk, IfErr, IfSome, IsErrOf, ◌⊎◌, Err, length, drop};
+ghost use Rattle.std.specs.Prelude.{◌≡◌, ◌≢◌, ℕ, ◌+◌, ◌*◌, ◌≤◌, ◌++◌, List, All, MatchResult, MatchOption, IfOk, IfErr, IfSome, IsErrOf, ◌⊎◌, Err, length, drop, true};
 ghost use Rattle.std.specs.Result.{IsOkAnd};
 ghost use Rattle.lattice_grid.specs.Control.{NamesBelow};
 ghost use Rattle.report_text.specs.Expected.{Expected, HasLattice, HasCells, HasProofs, Stops, refusal_of, rows_expected, cells_expected, proofs_expected, block_expected, answer_with};
@@ -89,6 +89,25 @@ fn cells_at(
     }
 }
 
+/// The proofs on the line at the front of the bytes, and what follows it.
+fn proofs_line(
+    alloc: Global,
+    bytes: &[u8],
+    line: u32,
+) -> Result<(Vec<Proof>, &[u8]), BlockFault>
+    ensures { MatchResult result
+        (λ found. HasProofs true bytes.now found.0.items found.1.now)
+        (λ fault. (later : List Expected) → Stops (proofs_expected true ++ later) bytes.now line (refusal_of fault)) }
+{
+    let Some((text, rest)) = cut(bytes, b'\n') else {
+        return Err(BlockFault::Truncated { line });
+    };
+    match proofs_of(alloc, text)? {
+        None => Err(BlockFault::Proofs { line }),
+        Some(proofs) => Ok((proofs, rest)),
+    }
+}
+
 /// The proofs on the line at the front of the bytes, where they are to follow, and what follows it.
 fn proofs_at(
     alloc: Global,
@@ -100,15 +119,10 @@ fn proofs_at(
         (λ found. HasProofs follow bytes.now found.0.items found.1.now)
         (λ fault. (later : List Expected) → Stops (proofs_expected follow ++ later) bytes.now line (refusal_of fault)) }
 {
-    if !follow {
-        return Ok((Vec::new(alloc), bytes));
-    }
-    let Some((text, rest)) = cut(bytes, b'\n') else {
-        return Err(BlockFault::Truncated { line });
-    };
-    match proofs_of(alloc, text)? {
-        None => Err(BlockFault::Proofs { line }),
-        Some(proofs) => Ok((proofs, rest)),
+    if follow {
+        proofs_line(alloc, bytes, line)
+    } else {
+        Ok((Vec::new(alloc), bytes))
     }
 }
 
