@@ -11,3 +11,5 @@ pub mod Backjump
 pub mod SomeSeen
 pub mod Anchor
 pub mod AnalysisSteps
+pub mod Steps
+pub mod Rounds

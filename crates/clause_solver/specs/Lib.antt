@@ -3,3 +3,4 @@ pub mod Kept
 pub mod Plain
 pub mod Analysis
 pub mod Copy
+pub mod Search

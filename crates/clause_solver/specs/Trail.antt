@@ -58,3 +58,10 @@ unassigned track = free (known_by track.values) (2 * track.vars + 2)
 -- each variable has a value
 abbrev pub AreValued : ℕ → Known → Type 0
 AreValued vars known = (l : Literal) → IsVariableOf vars l → (known l ≡ true) ⊎ (known (flip l) ≡ true)
+
+-- one more variable has a value, which was decided
+pub record IsDecided (old new : Track) : Type 0 where
+  pub lit : Literal
+  pub new_is : new ≡ record { vars = old.vars; values = record { lit = lit; reason = None } ∷ old.values }
+  pub variable : IsVariableOf old.vars lit
+  pub fresh : IsFresh (known_by old.values) lit

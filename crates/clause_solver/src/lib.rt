@@ -2,9 +2,11 @@
 #![tactic(auto)]
 
 pub mod analyse;
+pub mod conflict;
 pub mod decide;
 pub mod learn;
 pub mod level;
 pub mod propagate;
+pub mod search;
 pub mod trail;
 pub mod value;
