@@ -81,7 +81,7 @@ module _ (book : Book) (all : Known) (closed : IsClosed book all) where
     }
 
 -- clauses that count up, by their places
-numbered-at : (n : ℕ) (clauses : List (List Literal)) (step : Numbered) → Contains (numbered n clauses) step → (k : ℕ) × (slice_get clauses k ≡ Some step.clause)
+pub numbered-at : (n : ℕ) (clauses : List (List Literal)) (step : Numbered) → Contains (numbered n clauses) step → (k : ℕ) × (slice_get clauses k ≡ Some step.clause)
 numbered-at n [] step m = absurd (omega arith)
 numbered-at n (c ∷ clauses) step m = elim (Contains-cases (record { id = n; clause = c }) (numbered (n + 1) clauses) step m) [
   | inl e ↦ (0, ap Some (ap (λ (s : Numbered). s.clause) e))

@@ -13,3 +13,4 @@ pub mod Anchor
 pub mod AnalysisSteps
 pub mod Steps
 pub mod Rounds
+pub mod Solved

@@ -1,13 +1,14 @@
 -- How rounds come together.
-use Rattle.std.proofs.Common.{◌≡◌, ℕ, ◌+◌, ◌-◌, ◌*◌, ◌<◌, ◌≤◌, Bool, true, false, not, cond, List, [], ◌∷◌, ◌++◌, length, ◌⊎◌, inl, inr, refl, sym, ap, ◌∙◌, subst, arith, length-append, None}
+use Rattle.std.proofs.Common.{◌≡◌, ℕ, zero, suc, ◌+◌, ◌-◌, ◌*◌, ◌<◌, ◌≤◌, Bool, true, false, not, cond, List, [], ◌∷◌, ◌++◌, length, ◌⊎◌, inl, inr, refl, sym, ap, ◌∙◌, subst, arith, length-append, None}
 use Rattle.std.specs.Prelude.{All}
-use Rattle.clause_core.specs.Literal.{Literal, flip}
+use Rattle.clause_core.specs.Literal.{Literal, flip, literal_of}
+use Rattle.lrat_replay.specs.Status.{Known}
 use Rattle.clause_core.specs.Formula.{IsOver}
 use Rattle.lrat_replay.specs.Book.{Book, Numbered, after_addition, is_empty}
 use Rattle.lrat_replay.specs.New.{IsNew, AreAccepted, AreNew, AllTellPropagation}
 use Rattle.lrat_replay.specs.Learned.{after_steps, AreFresh, count_full, Learns, EndsEmpty}
 use Rattle.lrat_replay.proofs.LearnedLaws.{AllTellPropagation-append, AreAccepted-append, AreNew-append, after_steps-append, steps-after_steps, Learns-append, count_full-append}
-use Rattle.clause_solver.specs.Trail.{Track, known_by, unassigned, IsDecided, AreValued}
+use Rattle.clause_solver.specs.Trail.{Track, known_by, free, unassigned, IsDecided, AreValued}
 use Rattle.clause_solver.specs.Plain.{AllRest, HaveReasons}
 use Rattle.clause_solver.specs.Search.{IsReady, Goes, Moment, LearnsNew, LearnsUpTo, DecidesRound, SatisfiesRound, RoundSo}
 use Rattle.clause_solver.specs.declared.search.Round.{Round}
@@ -109,3 +110,21 @@ module _ (book : Book) (broken : Bool) (clauses : List (List Literal)) (old midd
   pub quiet_round : (r : Round) → (r ≡ Decided → IsDecided middle new) → (r ≡ Satisfied → (new ≡ middle) × AreValued middle.vars (known_by middle.values)) → (r ≡ Decided) ⊎ (r ≡ Satisfied) → RoundSo r (at old) (at new) left
   quiet_round r d s (inl e) = subst (λ q. RoundSo q (at old) (at new) left) (sym e) (decides (d e))
   quiet_round r d s (inr e) = subst (λ q. RoundSo q (at old) (at new) left) (sym e) (satisfies (s e))
+
+-- a learned clause costs more of what is left than values that are taken back give
+pub round_measure : (budget n w u v : ℕ) → n < budget → v < w → (budget - (n + 1)) * w + v < (budget - n) * w + u
+round_measure budget n w u v h k =
+    let e : budget - n ≡ (budget - (n + 1)) + 1 = omega arith in
+    subst (λ m. (budget - (n + 1)) * w + v < m * w + u) (sym e) (more (budget - (n + 1))) where
+      more : (rest : ℕ) → rest * w + v < (rest + 1) * w + u
+      more rest = omega arith
+
+free_few : (known : Known) (n : ℕ) → free known n ≤ n
+free_few known zero = omega arith
+free_few known (suc n) = let r = free_few known n in by (known (literal_of n)) r where
+  by : (b : Bool) → free known n ≤ n → cond b 0 1 + free known n ≤ suc n
+  by true r = omega arith
+  by false r = omega arith
+
+pub unassigned_few : (track : Track) (vars : ℕ) → track.vars ≡ vars → unassigned track < 2 * vars + 3
+unassigned_few track vars e = let r = free_few (known_by track.values) (2 * track.vars + 2) in omega arith

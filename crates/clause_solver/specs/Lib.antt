@@ -4,3 +4,4 @@ pub mod Plain
 pub mod Analysis
 pub mod Copy
 pub mod Search
+pub mod Solver
