@@ -1,16 +1,16 @@
 -- How rounds come together.
 use Rattle.std.proofs.Common.{◌≡◌, ℕ, zero, suc, ◌+◌, ◌-◌, ◌*◌, ◌<◌, ◌≤◌, Bool, true, false, not, cond, List, [], ◌∷◌, ◌++◌, length, ◌⊎◌, inl, inr, refl, sym, ap, ◌∙◌, subst, arith, length-append, None}
 use Rattle.std.specs.Prelude.{All}
-use Rattle.clause_core.specs.Literal.{Literal, flip, literal_of}
+use Rattle.clause_core.specs.Literal.{Literal, literal_of}
 use Rattle.lrat_replay.specs.Status.{Known}
 use Rattle.clause_core.specs.Formula.{IsOver}
 use Rattle.lrat_replay.specs.Book.{Book, Numbered, after_addition, is_empty}
 use Rattle.lrat_replay.specs.New.{IsNew, AreAccepted, AreNew, AllTellPropagation}
-use Rattle.lrat_replay.specs.Learned.{after_steps, AreFresh, count_full, Learns, EndsEmpty}
-use Rattle.lrat_replay.proofs.LearnedLaws.{AllTellPropagation-append, AreAccepted-append, AreNew-append, after_steps-append, steps-after_steps, Learns-append, count_full-append}
+use Rattle.lrat_replay.specs.Learned.{after_steps, AreFresh, count_full, EndsEmpty}
+use Rattle.lrat_replay.proofs.LearnedLaws.{AllTellPropagation-append, AreAccepted-append, AreNew-append, after_steps-append, Learns-append, count_full-append}
 use Rattle.clause_solver.specs.Trail.{Track, known_by, free, unassigned, IsDecided, AreValued}
 use Rattle.clause_solver.specs.Plain.{AllRest, HaveReasons}
-use Rattle.clause_solver.specs.Search.{IsReady, Goes, Moment, LearnsNew, LearnsUpTo, DecidesRound, SatisfiesRound, RoundSo}
+use Rattle.clause_solver.specs.Search.{IsReady, Moment, LearnsNew, LearnsUpTo, DecidesRound, SatisfiesRound, RoundSo}
 use Rattle.clause_solver.specs.declared.search.Round.{Round}
 use Rattle.clause_solver.specs.declared.search.Round.TheVariants.{Decided, Satisfied}
 use Rattle.clause_solver.proofs.Propagation.{pushed_fewer}

@@ -1,24 +1,21 @@
 -- What the endings of a search come to.
-use Rattle.std.proofs.Common.{◌≡◌, ℕ, zero, suc, ◌+◌, ◌-◌, ◌*◌, ◌<◌, ◌≤◌, Bool, true, false, not, cond, List, [], ◌∷◌, ◌++◌, length, get_or, ◌⊎◌, inl, inr, refl, sym, ap, ◌∙◌, subst, arith, Some}
-use Rattle.std.specs.Prelude.{slice_get, All}
+use Rattle.std.proofs.Common.{◌≡◌, ℕ, ◌+◌, ◌-◌, Bool, true, false, not, cond, List, [], ◌∷◌, length, inl, inr, refl, sym, ap, ◌∙◌, subst, arith, Some}
+use Rattle.std.specs.Prelude.{slice_get}
 use Rattle.std.specs.List.{Contains}
-use Rattle.std.specs.FinSet as set
-use Rattle.std.proofs.lemmas.Bool.{true≢false, both_ways, cond-true, cond-false, false_from_ne_true}
+use Rattle.std.proofs.lemmas.Bool.{both_ways, false_from_ne_true}
 use Rattle.std.proofs.lemmas.List.Elements.{Contains-append_left, Contains-append_right}
-use Rattle.clause_core.specs.Literal.{Literal, flip, has, is_true, clause_is_true}
-use Rattle.clause_core.specs.Formula.{Formula, IsOver, Satisfies, IsSatisfiedBy, value_in}
+use Rattle.clause_core.specs.Literal.{Literal, flip, has, is_true}
+use Rattle.clause_core.specs.Formula.{IsOver, IsSatisfiedBy, value_in}
 use Rattle.clause_core.proofs.Literals.{clause_is_true-has}
 use Rattle.lrat_replay.specs.Status.{Known, Rests, IsSatisfied}
-use Rattle.lrat_replay.specs.Book.{Book, Numbered, numbered, all_of, start}
+use Rattle.lrat_replay.specs.Book.{Book, Numbered, numbered, start}
 use Rattle.lrat_replay.specs.New.{IsOpen, IsUndecided, AllTellPropagation}
-use Rattle.lrat_replay.specs.Learned.{after_steps}
 use Rattle.lrat_replay.proofs.Sound.{Contains-cases}
 use Rattle.lrat_replay.proofs.Runs.{IsConsistent}
 use Rattle.lrat_replay.proofs.LearnedLaws.{formula-after_steps, steps-after_steps, deleted-after_steps}
-use Rattle.clause_solver.specs.Trail.{Track, known_by, AreFresh, AreValued, IsVariableOf, HasValues}
-use Rattle.clause_solver.specs.Plain.{AllRest}
+use Rattle.clause_solver.specs.Trail.{known_by, AreFresh, AreValued, IsVariableOf, HasValues}
 use Rattle.clause_solver.specs.Copy.{IsCopy}
-use Rattle.clause_solver.specs.Search.{IsReady, Moment, Goes, HasModel, LearnsNew}
+use Rattle.clause_solver.specs.Search.{IsReady, Moment, Goes, HasModel, LearnsNew, LearnsUpTo}
 use Rattle.clause_solver.specs.Solver.{KeepsOpen}
 use Rattle.clause_solver.proofs.AnalyseLaws.{fresh_consistent}
 use Rattle.clause_solver.proofs.Propagation.{all_over, over_has}
@@ -94,3 +91,9 @@ model_satisfies now values goes model fresh many has = record {
       clause_is_true-has (value_in values) clause s.lit s.is_in
       (known_true now.track.vars (known_by now.track.values) values (fresh_consistent now.track.values fresh) has s.lit (over_has now.track.vars clause s.lit over s.is_in) s.is_known);
 }
+
+pub formula-up_to : (old new : Book) (budget : ℕ) → LearnsUpTo old new budget → new.formula ≡ old.formula
+formula-up_to old new budget a = ap (λ (b : Book). b.formula) a.learns.grown ∙ formula-after_steps old a.learned
+
+pub deleted-up_to : (old new : Book) (budget : ℕ) → LearnsUpTo old new budget → new.deleted ≡ old.deleted
+deleted-up_to old new budget a = ap (λ (b : Book). b.deleted) a.learns.grown ∙ deleted-after_steps old a.learned

@@ -1,25 +1,20 @@
 -- What one more step is: accepted, new, and something that it tells propagation.
-use Rattle.std.proofs.Common.{◌≡◌, ℕ, zero, suc, ◌+◌, ◌*◌, ◌<◌, ◌≤◌, Bool, true, false, not, cond, List, [], ◌∷◌, ◌++◌, length, map, ◌⊎◌, inl, inr, refl, sym, ap, ◌∙◌, subst, arith, ℤ, pos, Option, None, Some, get_or, length-append}
-use Rattle.std.specs.Prelude.{slice_get, All}
-use Rattle.std.specs.List.{AllByRecursion}
-use Rattle.std.proofs.lemmas.List.Elements.{All-push, recursion_from_All}
-use Rattle.std.proofs.lemmas.Bool.{cases_Bool, both_ways, true≢false}
+use Rattle.std.proofs.Common.{◌≡◌, ℕ, zero, suc, ◌+◌, ◌<◌, ◌≤◌, Bool, true, false, not, cond, List, [], ◌∷◌, ◌++◌, length, map, inl, inr, refl, sym, ap, ◌∙◌, subst, arith, ℤ, pos, None, get_or, length-append}
+use Rattle.std.specs.Prelude.{All}
+use Rattle.std.proofs.lemmas.List.Elements.{All-push}
+use Rattle.std.proofs.lemmas.Bool.{cases_Bool, true≢false}
 use Rattle.clause_core.specs.Literal.{Literal, flip, has}
 use Rattle.clause_core.specs.Formula.{IsOver}
-use Rattle.clause_core.proofs.Literals.{flip-flip}
-use Rattle.lrat_replay.specs.Status.{Known}
-use Rattle.lrat_replay.specs.Book.{Book, Numbered, run, denied, Accepted, some_flip, addition_fault, after_addition, is_empty}
+use Rattle.lrat_replay.specs.Book.{Book, run, denied, Accepted, some_flip, addition_fault, after_addition, is_empty}
 use Rattle.lrat_replay.specs.New.{IsNew, TellsPropagation, IsUndecided}
 use Rattle.lrat_replay.specs.Ledger.{IsKeptOrAdded}
-use Rattle.lrat_replay.specs.Learned.{count_full, Learns}
-use Rattle.lrat_replay.proofs.Runs.{IsConsistent}
 use Rattle.lrat_replay.proofs.DenyLaws.{has-at, some_flip-some}
 use Rattle.lrat_replay.proofs.LearnedLaws.{Learns-none}
-use Rattle.clause_solver.specs.Trail.{Track, known_by, oldest, before_last, has_decision, AreFresh, AreOver, IsVariableOf}
+use Rattle.clause_solver.specs.Trail.{known_by, oldest, before_last, has_decision, AreFresh, AreOver, IsVariableOf}
 use Rattle.clause_solver.specs.Plain.{at_of, HaveReasons}
 use Rattle.clause_solver.specs.Analysis.{IsAsserting}
 use Rattle.clause_solver.specs.Copy.{IsCopy}
-use Rattle.clause_solver.specs.Search.{IsReady, LearnsNew, LearnsUpTo}
+use Rattle.clause_solver.specs.Search.{LearnsNew, LearnsUpTo}
 use Rattle.clause_solver.specs.declared.value.Value.{Value}
 use Rattle.clause_solver.proofs.AnalyseLaws.{fresh_consistent, value_cases}
 use Rattle.clause_solver.proofs.AnalysisSteps.{rested}

@@ -1,7 +1,7 @@
 -- What callers see of a solver, and what it answers.
-use Rattle.std.specs.Prelude.{◌≡◌, ℕ, Bool, false, List, length, Ok, Err}
+use Rattle.std.specs.Prelude.{◌≡◌, ℕ, false, Ok, Err}
 use Rattle.std.specs.declared.result.Result.{Result}
-use Rattle.lrat_replay.specs.Book.{Book, start}
+use Rattle.lrat_replay.specs.Book.{start}
 use Rattle.lrat_replay.specs.Learned.{EndsEmpty}
 use Rattle.clause_solver.specs.declared.verdict.Verdict.{Verdict}
 use Rattle.clause_solver.specs.declared.verdict.Verdict.TheVariants as verdicts

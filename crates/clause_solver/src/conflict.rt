@@ -89,12 +89,6 @@ pub fn refute_conflict<L: Ledger>(
     ensures later { L.faults ledger.old ≤ L.faults ledger.new }
     ensures origin { (L.origin ledger.new ≡ L.origin ledger.old) ⊎ (L.origin ledger.new ≡ []) }
 {
-    let hints = refute(
-        alloc,
-        &work.trail,
-        &work.clauses,
-        &mut work.seen,
-        conflict,
-    )?;
+    let hints = refute(alloc, &work.trail, &work.clauses, &mut work.seen, conflict)?;
     learn(alloc, ledger, &mut work.clauses, &[], &hints)
 }

@@ -1,13 +1,10 @@
-use Rattle.std.proofs.Common.{◌≡◌, ℕ, ◌+◌, ◌*◌, ◌++◌, ◌∷◌, [], length, map, pos, ◌∙◌, refl, sym, ap, subst, true, false, arith}
+use Rattle.std.proofs.Common.{◌≡◌, ◌+◌, ◌++◌, ◌∷◌, [], length, map, pos, ◌∙◌, sym, ap, subst, false, arith}
 use Rattle.std.specs.Prelude.{All}
-use Rattle.clause_core.specs.Literal.{Literal, has, flip}
 use Rattle.clause_core.specs.Formula.{IsOver}
-use Rattle.lrat_replay.specs.Marks.{room}
-use Rattle.lrat_replay.specs.Book.{Book, run, denied, Accepted, some_flip, after_addition}
+use Rattle.lrat_replay.specs.Book.{some_flip, after_addition}
 use Rattle.lrat_replay.specs.Ledger.{IsKeptOrAdded}
-use Rattle.clause_solver.specs.Trail.{Track, known_by, oldest}
-use Rattle.clause_solver.specs.Plain.{HaveReasons, at_of}
-use Rattle.clause_solver.specs.Analysis.{IsAsserting, IsAnchor}
+use Rattle.clause_solver.specs.Trail.{Track}
+use Rattle.clause_solver.specs.Plain.{HaveReasons}
 use Rattle.clause_solver.proofs.Steps.{false_over, false_no_tautology, asserting_new, asserting_tells, learns_one, up_to_one, accepts, over_more, formula_same}
 use Rattle.clause_solver.proofs.Backjump.{reasons_back}
 use Rattle.clause_solver.proofs.conflict.learn_conflict.Goals as goal

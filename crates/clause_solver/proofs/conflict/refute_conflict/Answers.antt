@@ -1,5 +1,4 @@
-use Rattle.std.proofs.Common.{◌≡◌, ℕ, ◌+◌, [], length, map, pos, ◌∙◌, refl, sym, ap, subst, false, arith}
-use Rattle.clause_core.specs.Literal.{Literal}
+use Rattle.std.proofs.Common.{◌+◌, [], length, map, pos, refl, arith}
 use Rattle.clause_core.specs.Formula.{IsOver}
 use Rattle.clause_solver.proofs.Steps.{up_to_empty, accepts}
 use Rattle.clause_solver.proofs.conflict.refute_conflict.Goals as goal

@@ -1,6 +1,5 @@
-use Rattle.std.proofs.Common.{◌≡◌, ◌+◌, ◌-◌, ◌<◌, ◌≤◌, ◌*◌, ◌∙◌, refl, sym, ap, arith}
-use Rattle.clause_solver.specs.Trail.{Track, unassigned}
-use Rattle.clause_solver.specs.Search.{Goes, RoundSo, LearnsRound}
+use Rattle.std.proofs.Common.{◌+◌, ◌-◌, ◌<◌, ◌*◌, ◌∙◌, refl, arith}
+use Rattle.clause_solver.specs.Trail.{unassigned}
 use Rattle.clause_solver.proofs.Rounds.{learns_more, up_to_more, origin_more, round_measure, unassigned_few}
 use Rattle.clause_solver.proofs.search.search.Goals as goal
 

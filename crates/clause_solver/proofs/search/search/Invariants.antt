@@ -1,4 +1,4 @@
-use Rattle.std.proofs.Common.{◌≡◌, ◌⊎◌, ◌+◌, ◌-◌, ◌*◌, ◌≤◌, List, [], length}
+use Rattle.std.proofs.Common.{◌≡◌, ◌⊎◌, ◌+◌, ◌-◌, ◌*◌, ◌≤◌, [], length}
 use Rattle.lrat_replay.specs.Marks.{room}
 use Rattle.clause_solver.specs.Trail.{unassigned}
 use Rattle.clause_solver.specs.Search.{Goes, LearnsNew}

@@ -1,8 +1,7 @@
-use Rattle.std.proofs.Common.{◌≡◌, List, Bool, Ok, ◌∙◌, refl, sym, ap, subst}
+use Rattle.std.proofs.Common.{◌≡◌, List, Bool, Ok, refl, subst}
 use Rattle.std.specs.declared.result.Result.{Result}
 use Rattle.clause_core.specs.Formula.{IsSatisfiedBy}
 use Rattle.lrat_replay.specs.Marks.{room}
-use Rattle.clause_solver.specs.Search.{Moment, SearchSo, SatisfiesSearch, SpendsSearch}
 use Rattle.clause_solver.specs.declared.verdict.Verdict.{Verdict}
 use Rattle.clause_solver.specs.declared.verdict.Verdict.TheVariants.{Satisfied}
 use Rattle.clause_solver.specs.declared.verdict.SolveFault.{SolveFault}
