@@ -85,3 +85,10 @@ has_its_literals clause l = (has-contains clause l, contains-has clause l)
 
 pub same-equal : (a b : Literal) (r : Bool) → r ≡ same a b → (r ≡ true) ↔ (a ≡ b)
 same-equal a b r e = (λ h. same-true a b (sym e ∙ h), λ h. e ∙ same-at a b h)
+
+pub clause_is_true-has : (v : ℕ → Bool) (c : List Literal) (l : Literal) → has c l ≡ true → is_true v l ≡ true → clause_is_true v c ≡ true
+clause_is_true-has v [] l m h = absurd (cc)
+clause_is_true-has v (x ∷ xs) l m h = elim (has-cases x l xs m) [
+  | inl e ↦ or_left (is_true v x) (clause_is_true v xs) (ap (is_true v) e ∙ h)
+  | inr e ↦ or_right (is_true v x) (clause_is_true v xs) (clause_is_true-has v xs l e h)
+]

@@ -5,18 +5,18 @@ use Rattle.std.proofs.lemmas.List.{reverse-append}
 use Rattle.std.specs.List.{AllByRecursion}
 use Rattle.std.proofs.lemmas.List.Elements.{All-push, All-from_recursion, recursion_from_All}
 use Rattle.clause_solver.proofs.Levels.{oldest-all, oldest-none}
-use Rattle.std.proofs.lemmas.Bool.{or_cases, or_left, or_right, both_ways, true≢false}
-use Rattle.clause_core.specs.Literal.{Literal, flip, same, has, number}
+use Rattle.std.proofs.lemmas.Bool.{or_cases, both_ways, true≢false}
+use Rattle.clause_core.specs.Literal.{Literal, flip, same, has}
 use Rattle.clause_core.proofs.Literals.{flip-flip, same-true, same-flip, same-at}
-use Rattle.lrat_replay.specs.Status.{Known, IsUnit, IsConflict}
+use Rattle.lrat_replay.specs.Status.{Known, IsConflict}
 use Rattle.lrat_replay.specs.Book.{run, Accepted, denied}
 use Rattle.lrat_replay.proofs.Runs.{IsConsistent, IsWithin}
 use Rattle.clause_solver.specs.Trail.{known_by, IsFresh, AreFresh, oldest}
-use Rattle.clause_solver.specs.Plain.{at_of, IsReason, IsConflictAt, HasReason, HaveReasons}
+use Rattle.clause_solver.specs.Plain.{at_of, IsReason, HasReason, HaveReasons}
 use Rattle.clause_solver.specs.Analysis.{IsReduced}
 use Rattle.clause_solver.specs.declared.value.Value.{Value}
 use Rattle.clause_solver.proofs.Reduce.{reduced_first, reduced_pass, reduced_keep, reduced_resolve, reduced_end}
-use Rattle.clause_solver.proofs.TrailPlaces.{known-drop, fresh-drop}
+use Rattle.clause_solver.proofs.TrailPlaces.{known-drop}
 use Rattle.clause_solver.proofs.Propagation.{get_inside}
 
 pub value_cases : (e : Value) (older : List Value) (l : Literal) → known_by (e ∷ older) l ≡ true → (e.lit ≡ l) ⊎ (known_by older l ≡ true)

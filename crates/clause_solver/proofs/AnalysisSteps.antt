@@ -1,21 +1,19 @@
 -- What the analysis of a conflict keeps from one value to the next older one.
-use Rattle.std.proofs.Common.{◌≡◌, ℕ, zero, suc, ◌+◌, ◌-◌, ◌<◌, ◌≤◌, Bool, true, false, List, [], ◌∷◌, ◌++◌, length, map, reverse, ◌⊎◌, inl, inr, refl, sym, ap, ◌∙◌, subst, arith, pos, ℤ, Option, None, Some, drop}
-use Rattle.std.specs.Prelude.{slice_get, All}
+use Rattle.std.proofs.Common.{◌≡◌, ℕ, zero, suc, ◌+◌, ◌-◌, ◌<◌, ◌≤◌, Bool, true, false, List, [], ◌∷◌, ◌++◌, length, map, reverse, ◌⊎◌, refl, sym, ap, ◌∙◌, subst, arith, pos, Option, None, Some, drop}
+use Rattle.std.specs.Prelude.{slice_get}
 use Rattle.std.proofs.lemmas.Bool.{both_ways, true≢false}
 use Rattle.clause_core.specs.Literal.{Literal, flip, has}
 use Rattle.lrat_replay.specs.Status.{Known, Rests, IsConflict}
 use Rattle.lrat_replay.proofs.Runs.{IsConsistent}
-use Rattle.lrat_replay.specs.Book.{run, denied, Accepted}
 use Rattle.clause_solver.specs.Trail.{known_by, oldest, before_last, has_decision, IsFresh, AreFresh}
 use Rattle.clause_solver.specs.Plain.{at_of, AllRest, IsReason, IsConflictAt, HasReason, HaveReasons}
-use Rattle.clause_solver.specs.Analysis.{IsReduced, IsSought, IsSomeSeen, MayResolve, MayKeep, IsAsserting}
+use Rattle.clause_solver.specs.Analysis.{IsReduced, IsSought, MayResolve, MayKeep, IsAsserting}
 use Rattle.clause_solver.specs.declared.value.Value.{Value}
-use Rattle.clause_solver.proofs.Reduce.{value-first}
-use Rattle.clause_solver.proofs.AnalyseLaws.{fresh_consistent, first, passed, kept, reason, resolved_here, last, same_at, hint_more, AreNumbers, numbers_more}
+use Rattle.clause_solver.proofs.AnalyseLaws.{fresh_consistent, first, passed, kept, reason, resolved_here, same_at, hint_more, AreNumbers, numbers_more}
 use Rattle.clause_solver.proofs.Asserting.{sought_first, sought_pass, sought_resolve, sought_keep, sought_end}
 use Rattle.clause_solver.proofs.SomeSeen.{below}
 use Rattle.clause_solver.proofs.Anchor.{IsAnchored, anchored_none, anchored_more}
-use Rattle.clause_solver.proofs.Levels.{known-oldest, known-before, oldest-all, oldest-none, decision-forced, decision-decided}
+use Rattle.clause_solver.proofs.Levels.{known-oldest, oldest-all, oldest-none, decision-decided}
 
 -- where the newest decision was made propagation was complete
 pub rested : (clauses : List (List Literal)) (values : List Value) → HaveReasons clauses values → has_decision values ≡ true → AllRest clauses (known_by (before_last values))

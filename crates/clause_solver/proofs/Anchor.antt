@@ -1,8 +1,8 @@
 -- How many values stay when the clause of a conflict is learned.
-use Rattle.std.proofs.Common.{◌≡◌, ℕ, zero, suc, ◌+◌, ◌-◌, ◌<◌, ◌≤◌, Bool, true, false, cond, nat_eq, List, [], ◌∷◌, ◌++◌, length, ◌⊎◌, inl, inr, refl, sym, ap, ◌∙◌, subst, arith}
-use Rattle.std.proofs.lemmas.Bool.{both_ways, or_left, or_right}
+use Rattle.std.proofs.Common.{◌≡◌, ℕ, ◌+◌, ◌<◌, ◌≤◌, true, false, List, [], ◌∷◌, ◌++◌, length, ◌⊎◌, inl, inr, refl, sym, ap, ◌∙◌, subst, arith}
+use Rattle.std.proofs.lemmas.Bool.{both_ways}
 use Rattle.std.proofs.lemmas.List.{length-append}
-use Rattle.clause_core.specs.Literal.{Literal, flip, same, has}
+use Rattle.clause_core.specs.Literal.{Literal, flip, has}
 use Rattle.clause_core.proofs.Literals.{flip-flip, has-first}
 use Rattle.clause_solver.specs.Trail.{known_by, oldest, IsFresh}
 use Rattle.clause_solver.specs.Analysis.{IsSecond, IsAnchor}

@@ -1,7 +1,6 @@
 -- The learned clause has one literal of the last level: first a value of that level is looked for, the only one that is left, and then it is found.
-use Rattle.std.proofs.Common.{◌≡◌, Bool, true, false, ◌||◌, List, [], ◌∷◌, ◌++◌, ◌⊎◌, inl, inr, refl, ap, sym, ◌∙◌, subst, Some}
-use Rattle.std.specs.Prelude.{slice_get}
-use Rattle.std.proofs.lemmas.Bool.{both_ways, true≢false, false_from_ne_true, or_left, or_right, or_cases}
+use Rattle.std.proofs.Common.{◌≡◌, true, false, List, [], ◌∷◌, ◌++◌, ◌⊎◌, inl, inr, refl, ap, sym, ◌∙◌, subst}
+use Rattle.std.proofs.lemmas.Bool.{both_ways, true≢false, or_left, or_right, or_cases}
 use Rattle.clause_core.specs.Literal.{Literal, flip, same, has}
 use Rattle.clause_core.proofs.Literals.{flip-flip, has-cases, same-refl}
 use Rattle.lrat_replay.specs.Status.{Known, Rests, IsConflict}

@@ -1,16 +1,16 @@
 -- After a backjump the values that are left still have their reasons, with the new clause too.
-use Rattle.std.proofs.Common.{◌≡◌, ℕ, zero, suc, ◌+◌, ◌-◌, ◌<◌, ◌≤◌, Bool, true, false, List, [], ◌∷◌, ◌++◌, length, drop, ◌⊎◌, inl, inr, refl, sym, ap, ◌∙◌, subst, arith, Option, None, Some, length-append, get_or}
-use Rattle.std.specs.Prelude.{slice_get, All}
-use Rattle.std.proofs.lemmas.Bool.{cases_eq, both_ways, true≢false, false_from_ne_true}
+use Rattle.std.proofs.Common.{◌≡◌, ℕ, zero, suc, ◌-◌, Bool, true, false, List, [], ◌∷◌, ◌++◌, length, ◌⊎◌, inl, inr, ap, ◌∙◌, subst, arith, Option, None, Some}
+use Rattle.std.specs.Prelude.{slice_get}
+use Rattle.std.proofs.lemmas.Bool.{both_ways, true≢false, false_from_ne_true}
 use Rattle.clause_core.specs.Literal.{Literal, flip, has}
 use Rattle.lrat_replay.specs.Status.{Known, Rests}
 use Rattle.clause_solver.specs.Trail.{known_by, oldest, before_last, has_decision}
-use Rattle.clause_solver.specs.Plain.{AllRest, IsReason, HasReason, HaveReasons}
-use Rattle.clause_solver.specs.Analysis.{IsSecond, IsAnchor}
+use Rattle.clause_solver.specs.Plain.{AllRest, HasReason, HaveReasons}
+use Rattle.clause_solver.specs.Analysis.{IsAnchor}
 use Rattle.clause_solver.specs.declared.value.Value.{Value}
 use Rattle.clause_solver.proofs.Reduce.{value-older}
 use Rattle.clause_solver.proofs.AnalyseLaws.{reasons-drop}
-use Rattle.clause_solver.proofs.Levels.{known-before, unknown-before, oldest-none, decision-decided, oldest-step}
+use Rattle.clause_solver.proofs.Levels.{unknown-before, oldest-none, oldest-step}
 
 -- at each decision the clause rests
 abbrev pub RestsBefore : List Literal → Known → Option ℕ → Type 0

@@ -1,19 +1,19 @@
 -- A learned clause is new and gains, and its hints are accepted.
-use Rattle.std.proofs.Common.{◌≡◌, ℕ, suc, ◌+◌, ◌==◌, Bool, true, false, not, cond, ◌&&◌, ◌||◌, List, [], ◌∷◌, ◌++◌, ◌⊎◌, inl, inr, refl, arith, ap, sym, ◌∙◌, subst, ℤ, pos, Option, None, Some}
+use Rattle.std.proofs.Common.{◌≡◌, ℕ, suc, ◌+◌, ◌==◌, true, false, not, cond, List, [], ◌∷◌, ◌⊎◌, inl, inr, refl, arith, ap, sym, ◌∙◌, subst, None, Some}
 use Rattle.std.specs.List.{Contains}
 use Rattle.std.specs.FinSet as set
-use Rattle.std.proofs.lemmas.Bool.{cases_Bool, and_parts, and_from, both_ways, true≢false, not-true, false_from_ne_true, or_from, or_parts}
+use Rattle.std.proofs.lemmas.Bool.{and_parts, both_ways, true≢false, not-true, false_from_ne_true}
 use Rattle.std.proofs.lemmas.List.Elements.{Contains-append_right}
 use Rattle.clause_core.specs.Literal.{Literal, flip, same, has}
-use Rattle.clause_core.proofs.Literals.{flip-flip, same-true, same-at, has-first}
-use Rattle.lrat_replay.specs.Status.{Known, with_literal, Rests}
+use Rattle.clause_core.proofs.Literals.{flip-flip, same-at}
+use Rattle.lrat_replay.specs.Status.{Known, Rests}
 use Rattle.std.specs.Prelude.{slice_get}
 use Rattle.clause_solver.specs.Copy.{IsCopy}
 use Rattle.clause_solver.specs.Plain.{AllRest}
-use Rattle.lrat_replay.specs.Book.{Book, Numbered, numbered, all_of, find, live, last_id, run, Accepted, Unfinished, denied, addition_fault}
-use Rattle.lrat_replay.specs.New.{IsSubset, IsNew, IsFree, TellsPropagation, IsUndecided, denied_but}
+use Rattle.lrat_replay.specs.Book.{Book, Numbered, numbered, all_of, find, live, last_id, denied}
+use Rattle.lrat_replay.specs.New.{IsSubset, IsNew, TellsPropagation, IsUndecided, denied_but}
 use Rattle.lrat_replay.proofs.Sound.{addition-passed, Contains-cases}
-use Rattle.lrat_replay.proofs.Runs.{IsConsistent, IsWithin, stays, Entry, hints_of, Derives, after, accepted}
+use Rattle.lrat_replay.proofs.Runs.{IsConsistent, IsWithin, stays}
 
 -- literals under which no clause forces anything: a trail at the moment of a decision
 pub record IsClosed (book : Book) (all : Known) : Type 0 where
@@ -81,7 +81,7 @@ module _ (book : Book) (all : Known) (closed : IsClosed book all) where
     }
 
 -- clauses that count up, by their places
-numbered-at : (n : ℕ) (clauses : List (List Literal)) (step : Numbered) → Contains (numbered n clauses) step → (k : ℕ) × (slice_get clauses k ≡ Some step.clause)
+pub numbered-at : (n : ℕ) (clauses : List (List Literal)) (step : Numbered) → Contains (numbered n clauses) step → (k : ℕ) × (slice_get clauses k ≡ Some step.clause)
 numbered-at n [] step m = absurd (omega arith)
 numbered-at n (c ∷ clauses) step m = elim (Contains-cases (record { id = n; clause = c }) (numbered (n + 1) clauses) step m) [
   | inl e ↦ (0, ap Some (ap (λ (s : Numbered). s.clause) e))

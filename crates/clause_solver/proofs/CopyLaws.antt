@@ -1,5 +1,5 @@
 -- What a copy of a ledger's clauses tells of the ledger.
-use Rattle.std.proofs.Common.{◌≡◌, ℕ, zero, suc, ◌+◌, ◌==◌, ◌<◌, ◌≤◌, Bool, true, false, not, cond, ◌||◌, List, [], ◌∷◌, ◌++◌, length, ◌⊎◌, inl, inr, refl, sym, ap, ◌∙◌, subst, arith, ℤ, pos, Option, None, Some, append_assoc, length-append}
+use Rattle.std.proofs.Common.{◌≡◌, ℕ, zero, suc, ◌+◌, ◌<◌, ◌≤◌, false, not, cond, ◌||◌, List, [], ◌∷◌, ◌++◌, length, refl, sym, ap, ◌∙◌, subst, arith, ℤ, pos, None, Some, append_assoc, length-append}
 use Rattle.std.specs.Prelude.{slice_get, nat_lt, All, map}
 use Rattle.std.specs.List.{AllByRecursion}
 use Rattle.std.proofs.lemmas.List.Elements.{recursion_from_All, All-map}
@@ -8,9 +8,9 @@ use Rattle.clause_core.specs.Formula.{IsOver}
 use Rattle.lrat_replay.specs.Ledger.{IsAbove0}
 use Rattle.std.specs.FinSet as set
 use Rattle.std.specs.Ordering.{nat_cmp}
-use Rattle.std.proofs.lemmas.Bool.{cases_eq, eq-eqb, ne_eqb, or_from, lt-ltb, le-ltb}
-use Rattle.clause_core.specs.Literal.{Literal, flip}
-use Rattle.lrat_replay.specs.Book.{Book, Numbered, numbered, all_of, find, live, last_of, last_id, run, Accepted, denied, some_flip, some_above, addition_fault, after_addition}
+use Rattle.std.proofs.lemmas.Bool.{eq-eqb, ne_eqb, or_from, lt-ltb, le-ltb}
+use Rattle.clause_core.specs.Literal.{Literal}
+use Rattle.lrat_replay.specs.Book.{Book, Numbered, numbered, all_of, find, live, last_of, run, Accepted, denied, some_flip, some_above, addition_fault, after_addition}
 use Rattle.lrat_replay.proofs.Sound.{addition-none}
 use Rattle.clause_solver.specs.Plain.{at_of}
 use Rattle.clause_solver.specs.Copy.{IsCopy}

@@ -1,11 +1,11 @@
 -- Decisions, and the values before the newest one.
 use Rattle.std.proofs.Common.{◌≡◌, ℕ, zero, suc, ◌+◌, ◌-◌, ◌<◌, ◌≤◌, Bool, true, false, List, [], ◌∷◌, length, drop, ◌⊎◌, inl, inr, refl, sym, ap, ◌∙◌, subst, arith, Option, None, Some, length-drop}
 use Rattle.std.proofs.Math.ListN.{drop_of_length-le}
-use Rattle.std.proofs.lemmas.Bool.{false_from_ne_true, both_ways, true≢false}
-use Rattle.clause_core.specs.Literal.{Literal, flip}
-use Rattle.clause_solver.specs.Trail.{known_by, oldest, before_last, has_decision, IsFresh}
+use Rattle.std.proofs.lemmas.Bool.{false_from_ne_true, both_ways}
+use Rattle.clause_core.specs.Literal.{Literal}
+use Rattle.clause_solver.specs.Trail.{known_by, oldest, before_last, has_decision}
 use Rattle.clause_solver.specs.declared.value.Value.{Value}
-use Rattle.clause_solver.proofs.Reduce.{value-older, value-first}
+use Rattle.clause_solver.proofs.Reduce.{value-older}
 
 pub before-forced : (v : Value) (older : List Value) (id : ℕ) → v.reason ≡ Some id → before_last (v ∷ older) ≡ before_last older
 before-forced v older id e = ap (λ (o : Option ℕ). elim o as (λ _. List Value) [ None ↦ older | Some i ↦ before_last older ]) e

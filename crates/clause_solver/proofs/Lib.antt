@@ -11,3 +11,6 @@ pub mod Backjump
 pub mod SomeSeen
 pub mod Anchor
 pub mod AnalysisSteps
+pub mod Steps
+pub mod Rounds
+pub mod Solved

@@ -1,9 +1,9 @@
 -- Steps of propagation.
-use Rattle.std.proofs.Common.{◌≡◌, ℕ, zero, suc, ◌+◌, ◌*◌, ◌==◌, ◌<◌, ◌≤◌, Bool, true, false, cond, ◌||◌, List, [], ◌∷◌, length, Option, Some, None, ◌⊎◌, inl, inr, refl, sym, ap, ◌∙◌, subst, arith}
+use Rattle.std.proofs.Common.{◌≡◌, ℕ, zero, suc, ◌+◌, ◌*◌, ◌==◌, ◌<◌, ◌≤◌, Bool, true, false, cond, ◌||◌, List, [], ◌∷◌, length, Option, Some, ◌⊎◌, inl, inr, refl, sym, ap, ◌∙◌, subst, arith}
 use Rattle.std.specs.Prelude.{slice_get, All}
 use Rattle.std.proofs.Common.{get_or}
 use Rattle.std.proofs.lemmas.Bool.{cases_eq, eq-eqb, ne_eqb, true≢false}
-use Rattle.clause_core.specs.Literal.{Literal, flip, number, same, has, literal_of, number-literal_of}
+use Rattle.clause_core.specs.Literal.{Literal, number, same, has, literal_of, number-literal_of}
 use Rattle.clause_core.proofs.Literals.{same-true}
 use Rattle.lrat_replay.specs.Status.{Known, status, with_literal, Rests, IsUnit}
 use Rattle.lrat_replay.specs.declared.status.Status.TheVariants.{Satisfied, Unresolved}
@@ -13,7 +13,7 @@ use Rattle.lrat_replay.proofs.HintsLaws.{has_all}
 use Rattle.std.proofs.lemmas.List.Elements.{recursion_from_All}
 use Rattle.clause_solver.proofs.TrailPlaces.{number_below}
 use Rattle.clause_solver.specs.Trail.{Track, known_by, free, unassigned, IsFresh, IsVariableOf}
-use Rattle.clause_solver.specs.Plain.{AllRest, HaveReasons}
+use Rattle.clause_solver.specs.Plain.{HaveReasons}
 
 -- the clauses below a place rest
 abbrev pub RestBelow : List (List Literal) → Known → ℕ → Type 0

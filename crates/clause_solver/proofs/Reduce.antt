@@ -1,5 +1,5 @@
 -- Analysis of a conflict, value by value from the newest: each value is passed over, kept in the learned clause, or resolved.
-use Rattle.std.proofs.Common.{◌≡◌, ℕ, Bool, true, false, ◌||◌, List, [], ◌∷◌, ◌⊎◌, inl, inr, refl, ap, sym, ◌∙◌, subst, ℤ, pos, Option, Some}
+use Rattle.std.proofs.Common.{◌≡◌, ℕ, true, false, List, [], ◌∷◌, ◌⊎◌, inl, inr, ap, sym, ◌∙◌, subst, ℤ, pos, Option, Some}
 use Rattle.std.proofs.lemmas.Bool.{or_cases, or_left, or_right, both_ways, true≢false, false_from_ne_true}
 use Rattle.clause_core.specs.Literal.{Literal, flip, same, has}
 use Rattle.clause_core.proofs.Literals.{flip-flip, same-true, same-refl, has-first, has-rest, has-cases}

@@ -1,5 +1,5 @@
 -- A solver's own clauses are those of its ledger.
-use Rattle.std.specs.Prelude.{◌≡◌, ℕ, List, length}
+use Rattle.std.specs.Prelude.{◌≡◌, List, length}
 use Rattle.std.specs.FinSet as set
 use Rattle.clause_core.specs.Literal.{Literal}
 use Rattle.lrat_replay.specs.Book.{Book, numbered, all_of, last_id}

@@ -1,5 +1,5 @@
 -- What a trail keeps.
-use Rattle.std.specs.Prelude.{◌≡◌, ◌+◌, ◌*◌, ◌<◌, ◌≤◌, List, reverse, length}
+use Rattle.std.specs.Prelude.{◌≡◌, ◌+◌, ◌*◌, ◌<◌, ◌≤◌, reverse}
 use Rattle.lrat_replay.specs.Marks.{known_of, room}
 use Rattle.clause_solver.specs.Trail.{Track, known_by, AreFresh, AreOver}
 use Rattle.clause_solver.specs.declared.trail.Trail.TheInside.{Inside}

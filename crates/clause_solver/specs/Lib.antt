@@ -3,3 +3,5 @@ pub mod Kept
 pub mod Plain
 pub mod Analysis
 pub mod Copy
+pub mod Search
+pub mod Solver

@@ -1,5 +1,5 @@
 -- Values in the order in which they came, the newest first.
-use Rattle.std.specs.Prelude.{◌≡◌, ◌⊎◌, ℕ, ◌+◌, ◌-◌, ◌*◌, ◌≤◌, drop, Bool, true, false, cond, ◌||◌, List, [], ◌∷◌, length, None, Some}
+use Rattle.std.specs.Prelude.{◌≡◌, ◌⊎◌, ℕ, ◌+◌, ◌-◌, ◌*◌, ◌<◌, ◌≤◌, drop, slice_index_or, Bool, true, false, cond, ◌||◌, List, [], ◌∷◌, length, None, Some}
 use Rattle.std.proofs.Common.{zero, suc}
 use Rattle.clause_core.specs.Literal.{Literal, flip, same, literal_of}
 use Rattle.lrat_replay.specs.Status.{Known}
@@ -58,3 +58,14 @@ unassigned track = free (known_by track.values) (2 * track.vars + 2)
 -- each variable has a value
 abbrev pub AreValued : ℕ → Known → Type 0
 AreValued vars known = (l : Literal) → IsVariableOf vars l → (known l ≡ true) ⊎ (known (flip l) ≡ true)
+
+-- one more variable has a value, which was decided
+pub record IsDecided (old new : Track) : Type 0 where
+  pub lit : Literal
+  pub new_is : new ≡ record { vars = old.vars; values = record { lit = lit; reason = None } ∷ old.values }
+  pub variable : IsVariableOf old.vars lit
+  pub fresh : IsFresh (known_by old.values) lit
+
+-- the first variables are true in the list of values where the literal of them is known
+abbrev pub HasValues : ℕ → Known → List Bool → Type 0
+HasValues vars known values = (k : ℕ) → k < vars → slice_index_or values k false ≡ known (record { var = k + 1; negated = false })

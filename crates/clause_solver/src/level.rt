@@ -1,6 +1,6 @@
 //! Where levels begin: the decisions of a trail.
 ghost use Rattle.std.specs.Prelude.{◌≡◌, ◌<◌, ◌≤◌, true, false, length, IfSome, IfNone};
-ghost use Rattle.clause_solver.specs.Trail.{oldest, before_last, has_decision};
+ghost use Rattle.clause_solver.specs.Trail.{oldest, before_last, has_decision, AreFresh};
 
 use crate::trail::Trail;
 
@@ -26,6 +26,7 @@ pub fn last_decision(trail: &Trail) -> Option<usize>
     ensures before { IfSome result (λ place. before_last trail.now.values ≡ oldest place trail.now.values) }
     ensures some { IfSome result (λ place. has_decision trail.now.values ≡ true) }
     ensures none { IfNone result (has_decision trail.now.values ≡ false) }
+    ensures fresh { AreFresh trail.now.values }
 {
     let mut place = trail.len();
     while place > 0 {

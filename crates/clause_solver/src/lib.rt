@@ -2,9 +2,14 @@
 #![tactic(auto)]
 
 pub mod analyse;
+pub mod conflict;
 pub mod decide;
 pub mod learn;
 pub mod level;
+pub mod model;
 pub mod propagate;
+pub mod search;
+pub mod solver;
 pub mod trail;
 pub mod value;
+pub mod verdict;

@@ -53,6 +53,7 @@ impl Trail {
     pub fn vars(&self) -> u32
         ensures value { result ≡ self.now.vars }
         ensures within { result < 2147483648 }
+        ensures fresh { AreFresh self.now.values }
     {
         self.vars
     }

@@ -1,4 +1,4 @@
-use Rattle.std.proofs.Common.{◌≡◌, ◌<◌, ◌≤◌, List, ◌∷◌, ◌∙◌, sym, subst, inl, inr, arith}
+use Rattle.std.proofs.Common.{◌≡◌, ◌<◌, List, ◌∷◌, ◌∙◌, sym, subst, inl, inr, arith}
 use Rattle.clause_solver.specs.Analysis.{MayResolve, MayKeep}
 use Rattle.clause_solver.specs.declared.value.Value.{Value}
 use Rattle.lrat_replay.specs.Marks.{known_of}

@@ -1,4 +1,4 @@
-use Rattle.std.proofs.Common.{◌≡◌, ℕ, ◌+◌, ◌*◌, ◌-◌, ◌<◌, ◌≤◌, length, reverse, map, [], ◌∷◌, ◌++◌, ◌∙◌, refl, sym, ap, subst, arith, pos, true, None, Some}
+use Rattle.std.proofs.Common.{◌≡◌, ◌+◌, ◌*◌, ◌-◌, ◌≤◌, reverse, map, [], ◌∷◌, ◌++◌, ◌∙◌, refl, sym, ap, subst, arith, pos, true}
 use Rattle.std.specs.Prelude.{slice_get}
 use Rattle.clause_core.specs.Literal.{has}
 use Rattle.lrat_replay.specs.Marks.{known_of, room}

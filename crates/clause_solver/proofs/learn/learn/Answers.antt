@@ -1,4 +1,4 @@
-use Rattle.std.proofs.Common.{◌≡◌, ◌+◌, ◌++◌, ◌∷◌, [], length, map, pos, ◌∙◌, sym, ap, subst, None}
+use Rattle.std.proofs.Common.{◌≡◌, ◌+◌, length, map, pos, ◌∙◌, sym, ap, subst, None}
 use Rattle.std.specs.Prelude.{All}
 use Rattle.lrat_replay.specs.Book.{addition_fault, after_addition}
 use Rattle.lrat_replay.specs.Ledger.{IsAbove0}

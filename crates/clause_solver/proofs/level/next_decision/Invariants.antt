@@ -1,4 +1,4 @@
-use Rattle.std.proofs.Common.{◌≡◌, ◌≤◌, ◌-◌, length}
+use Rattle.std.proofs.Common.{◌≡◌, ◌≤◌, ◌-◌}
 use Rattle.clause_solver.specs.Trail.{oldest, before_last, has_decision}
 use Rattle.clause_solver.proofs.level.next_decision.Given as goal
 

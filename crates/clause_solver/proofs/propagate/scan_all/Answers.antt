@@ -1,11 +1,8 @@
-use Rattle.std.proofs.Common.{◌≡◌, ℕ, ◌+◌, ◌<◌, ◌≤◌, List, length, ◌∙◌, refl, sym, ap, subst, Some, Ok, inl, inr, true, arith}
-use Rattle.std.specs.Prelude.{slice_get}
+use Rattle.std.proofs.Common.{◌≡◌, ℕ, ◌+◌, ◌∙◌, refl, sym, subst, Ok, inl, inr, true, arith}
 use Rattle.std.specs.declared.result.Result.{Result}
 use Rattle.wire_io.specs.declared.fault.NoMemory.{NoMemory}
-use Rattle.lrat_replay.specs.declared.status.Status.TheVariants.{Forces}
-use Rattle.lrat_replay.specs.Status.{status, IsUnit}
+use Rattle.lrat_replay.specs.Status.{IsUnit}
 use Rattle.lrat_replay.proofs.StatusLaws.{forces-is, conflict-is}
-use Rattle.clause_core.specs.Literal.{Literal}
 use Rattle.clause_solver.specs.Trail.{Track, known_by, unassigned, IsVariableOf}
 use Rattle.clause_solver.specs.Plain.{IsConflictAt}
 use Rattle.clause_solver.specs.declared.propagate.Pass.{Pass}

@@ -1,5 +1,5 @@
-use Rattle.std.proofs.Common.{◌≡◌, ◌<◌, ◌≤◌, ◌∷◌, length, ap, ◌∙◌, sym, arith}
-use Rattle.clause_solver.specs.Trail.{Track, oldest}
+use Rattle.std.proofs.Common.{◌≡◌, ◌<◌, ◌∷◌, length, ap, ◌∙◌, sym, arith}
+use Rattle.clause_solver.specs.Trail.{Track}
 use Rattle.clause_solver.proofs.TrailPlaces.{oldest-rest}
 use Rattle.clause_solver.proofs.trail.Trail.back.Goals as goal
 

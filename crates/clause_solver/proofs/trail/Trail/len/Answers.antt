@@ -1,4 +1,4 @@
-use Rattle.std.proofs.Common.{◌≡◌, ◌∙◌, sym, ap, subst, length}
+use Rattle.std.proofs.Common.{◌∙◌, sym, ap, subst, length}
 use Rattle.std.proofs.lemmas.List.{length-reverse}
 use Rattle.clause_solver.specs.Trail.{Track, AreFresh, AreOver}
 use Rattle.clause_solver.proofs.trail.Trail.len.Goals as goal

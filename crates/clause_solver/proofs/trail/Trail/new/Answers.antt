@@ -1,5 +1,5 @@
-use Rattle.std.proofs.Common.{◌≡◌, ◌≤◌, ◌+◌, ◌*◌, ap, ◌∙◌, sym, subst, reverse, [], arith}
-use Rattle.clause_solver.specs.Trail.{Track, known_by, AreFresh, AreOver}
+use Rattle.std.proofs.Common.{ap, ◌∙◌, sym, subst, reverse, arith}
+use Rattle.clause_solver.specs.Trail.{known_by, AreFresh, AreOver}
 use Rattle.clause_solver.proofs.trail.Trail.new.Goals as goal
 
 pub invariant_of-result : goal.invariant_of-result

@@ -1,9 +1,8 @@
-use Rattle.std.proofs.Common.{◌≡◌, ◌≤◌, ◌+◌, ◌*◌, ap, ◌∙◌, sym, subst, reverse, List, [], ◌∷◌, ◌++◌, arith}
+use Rattle.std.proofs.Common.{◌≡◌, ◌≤◌, ◌+◌, ◌*◌, ap, ◌∙◌, sym, subst, reverse, [], ◌∷◌}
 use Rattle.std.proofs.lemmas.List.{reverse-append}
 use Rattle.lrat_replay.specs.Marks.{room}
 use Rattle.lrat_replay.specs.Status.{without_literal}
 use Rattle.clause_solver.specs.Trail.{known_by, AreFresh, AreOver}
-use Rattle.clause_solver.specs.declared.value.Value.{Value}
 use Rattle.clause_solver.proofs.TrailPlaces.{known-pop, number_below}
 use Rattle.clause_solver.proofs.trail.Trail.pop.Goals as goal
 

@@ -1,4 +1,4 @@
-use Rattle.std.proofs.Common.{◌≡◌, ◌≤◌, ◌+◌, ◌*◌, ap, ◌∙◌, sym, subst, reverse, List, [], ◌∷◌}
+use Rattle.std.proofs.Common.{◌≡◌, ◌≤◌, ◌+◌, ◌*◌, ap, ◌∙◌, sym, subst, reverse, [], ◌∷◌}
 use Rattle.std.proofs.lemmas.List.{reverse-append}
 use Rattle.lrat_replay.specs.Status.{with_literal}
 use Rattle.clause_solver.specs.Trail.{Track, known_by, AreFresh, IsFresh, IsVariableOf, AreOver}

@@ -1,4 +1,4 @@
-use Rattle.std.proofs.Common.{◌≡◌, ◌<◌, ◌∙◌, sym, ap, subst, length, reverse}
+use Rattle.std.proofs.Common.{◌<◌, ◌∙◌, sym, ap, subst, length}
 use Rattle.std.proofs.lemmas.List.{length-reverse}
 use Rattle.clause_solver.specs.Trail.{Track}
 use Rattle.clause_solver.proofs.TrailPlaces.{IsValueAt, value_at}

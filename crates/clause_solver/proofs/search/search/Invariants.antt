@@ -1,0 +1,19 @@
+use Rattle.std.proofs.Common.{◌≡◌, ◌⊎◌, ◌+◌, ◌-◌, ◌*◌, ◌≤◌, [], length}
+use Rattle.lrat_replay.specs.Marks.{room}
+use Rattle.clause_solver.specs.Trail.{unassigned}
+use Rattle.clause_solver.specs.Search.{Goes, LearnsNew}
+use Rattle.clause_solver.proofs.search.search.Given as goal
+
+abbrev pub invariant-loop-learned : goal.invariant-loop-learned
+invariant-loop-learned g l = record {
+  within : l.learned ≤ l.budget;
+  goes : Goes (record { book = g.L.Ledger.book l.ledger; broken = g.L.Ledger.broken l.ledger; clauses = l.work.clauses; track = l.work.trail; width = room l.work.seen });
+  learns : LearnsNew (g.L.Ledger.book l.fn.ledger) (g.L.Ledger.book l.ledger) l.learned;
+  many : length l.work.clauses ≡ length l.fn.work.clauses + l.learned;
+  vars : l.work.trail.vars ≡ l.fn.work.trail.vars;
+  later : g.L.Ledger.faults l.fn.ledger ≤ g.L.Ledger.faults l.ledger;
+  origin : (g.L.Ledger.origin l.ledger ≡ g.L.Ledger.origin l.fn.ledger) ⊎ (g.L.Ledger.origin l.ledger ≡ []);
+}
+
+abbrev pub decreases-loop-learned : goal.decreases-loop-learned
+decreases-loop-learned g l = (l.budget - l.learned) * (2 * l.fn.work.trail.vars + 3) + unassigned l.work.trail

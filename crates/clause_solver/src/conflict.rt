@@ -1,0 +1,94 @@
+//! What a conflict comes to: a learned clause and a backjump, or the empty clause.
+ghost use Rattle.std.specs.Prelude.{◌≡◌, ◌⊎◌, ℕ, ◌+◌, ◌<◌, ◌≤◌, OnOk, true, false, [], length, Err};
+ghost use Rattle.wire_io.specs.Causes.{Rose};
+ghost use Rattle.lrat_replay.specs.Marks.{room};
+ghost use Rattle.lrat_replay.specs.Book.{after_addition};
+ghost use Rattle.clause_solver.specs.Trail.{known_by, oldest, before_last, has_decision};
+ghost use Rattle.clause_solver.specs.Plain.{HaveReasons, IsConflictAt};
+ghost use Rattle.clause_solver.specs.Search.{IsReady, LearnsNew, LearnsUpTo};
+
+use crate::analyse::{analyse, refute};
+use crate::learn::learn;
+use crate::level::next_decision;
+use crate::trail::Trail;
+use clause_core::clauses::Clauses;
+use lrat_replay::ledger::{LearnFault, Ledger};
+use lrat_replay::marks::Marks;
+use std::alloc::Global;
+
+/// What a search works on: the ledger's clauses, each at the place before its identifier, the trail, and marks.
+#[derive(Drop)]
+pub struct Work {
+    pub clauses: Clauses,
+    pub trail: Trail,
+    pub seen: Marks,
+}
+
+/// Learns the clause of a conflict at a level that begins at `start`, and goes back to where it forces a literal.
+pub fn learn_conflict<L: Ledger>(
+    alloc: Global,
+    ledger: &mut L,
+    work: &mut Work,
+    conflict: usize,
+    start: usize,
+) -> Result<(), LearnFault>
+    requires ready { IsReady (L.book ledger.old) (L.broken ledger.old) work.old.clauses work.old.trail (room work.old.seen) }
+    requires reasons { HaveReasons work.old.clauses work.old.trail.values }
+    requires conflict { IsConflictAt work.old.clauses (known_by work.old.trail.values) conflict }
+    requires last { start < length work.old.trail.values }
+    requires newest { before_last work.old.trail.values ≡ oldest start work.old.trail.values }
+    requires decided { has_decision work.old.trail.values ≡ true }
+    requires few { length work.old.clauses < 2147483647 }
+    ensures ready { OnOk result (IsReady (L.book ledger.new) (L.broken ledger.new) work.new.clauses work.new.trail (room work.new.seen)) }
+    ensures reasons { OnOk result (HaveReasons work.new.clauses work.new.trail.values) }
+    ensures learned { OnOk result (LearnsNew (L.book ledger.old) (L.book ledger.new) 1) }
+    ensures vars { OnOk result (work.new.trail.vars ≡ work.old.trail.vars) }
+    ensures grown { OnOk result (length work.new.clauses ≡ length work.old.clauses + 1) }
+    ensures at_most { LearnsUpTo (L.book ledger.old) (L.book ledger.new) 1 }
+    ensures cause { result ≡ Err LearnFault.Failed → Rose (L.faults ledger.old) (L.faults ledger.new) }
+    ensures later { L.faults ledger.old ≤ L.faults ledger.new }
+    ensures origin { (L.origin ledger.new ≡ L.origin ledger.old) ⊎ (L.origin ledger.new ≡ []) }
+{
+    let end = work.trail.len();
+    let learned = analyse(
+        alloc,
+        &work.trail,
+        &work.clauses,
+        &mut work.seen,
+        conflict,
+        start,
+    )?;
+    learn(
+        alloc,
+        ledger,
+        &mut work.clauses,
+        &learned.clause,
+        &learned.hints,
+    )?;
+    let keep = next_decision(&work.trail, learned.after, end);
+    work.trail.back(keep);
+    Ok(())
+}
+
+/// Learns the empty clause from a conflict at level zero.
+pub fn refute_conflict<L: Ledger>(
+    alloc: Global,
+    ledger: &mut L,
+    work: &mut Work,
+    conflict: usize,
+) -> Result<(), LearnFault>
+    requires ready { IsReady (L.book ledger.old) (L.broken ledger.old) work.old.clauses work.old.trail (room work.old.seen) }
+    requires reasons { HaveReasons work.old.clauses work.old.trail.values }
+    requires conflict { IsConflictAt work.old.clauses (known_by work.old.trail.values) conflict }
+    requires decided { has_decision work.old.trail.values ≡ false }
+    requires few { length work.old.clauses < 2147483647 }
+    ensures whole { OnOk result (L.broken ledger.new ≡ false) }
+    ensures learned { OnOk result (L.book ledger.new ≡ after_addition (L.book ledger.old) (length work.old.clauses + 1) []) }
+    ensures at_most { LearnsUpTo (L.book ledger.old) (L.book ledger.new) 0 }
+    ensures cause { result ≡ Err LearnFault.Failed → Rose (L.faults ledger.old) (L.faults ledger.new) }
+    ensures later { L.faults ledger.old ≤ L.faults ledger.new }
+    ensures origin { (L.origin ledger.new ≡ L.origin ledger.old) ⊎ (L.origin ledger.new ≡ []) }
+{
+    let hints = refute(alloc, &work.trail, &work.clauses, &mut work.seen, conflict)?;
+    learn(alloc, ledger, &mut work.clauses, &[], &hints)
+}

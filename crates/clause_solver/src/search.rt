@@ -1,0 +1,132 @@
+//! Search: rounds of propagation, each ended by a decision or by a conflict.
+ghost use Rattle.std.specs.Prelude.{◌≡◌, ◌⊎◌, ℕ, ◌+◌, ◌<◌, ◌≤◌, IfOk, [], length, Ok, Err};
+ghost use Rattle.wire_io.specs.Causes.{Rose};
+ghost use Rattle.lrat_replay.specs.Marks.{room};
+ghost use Rattle.clause_solver.specs.Trail.{known_by, AreValued, IsDecided};
+ghost use Rattle.clause_solver.specs.Plain.{IsConflictAt};
+ghost use Rattle.clause_solver.specs.Search.{IsReady, Goes, RoundSo, SearchSo, LearnsUpTo};
+
+use crate::conflict::{Work, learn_conflict, refute_conflict};
+use crate::decide::least_unassigned;
+use crate::level::last_decision;
+use crate::propagate::propagate;
+use crate::trail::Trail;
+use lrat_replay::ledger::{LearnFault, Ledger};
+use std::alloc::Global;
+use wire_io::fault::NoMemory;
+
+/// What one round came to.
+#[derive(Clone, Copy, Debug, PartialEq, Eq)]
+pub enum Round {
+    /// A clause was learned.
+    Learned,
+    /// A variable was decided.
+    Decided,
+    /// Each variable has a value.
+    Satisfied,
+    /// The empty clause was learned.
+    Refuted,
+    /// A clause could be learned, but for the budget.
+    Spent,
+}
+
+/// What a search came to.
+#[derive(Clone, Copy, Debug, PartialEq, Eq)]
+pub enum Ending {
+    /// Each variable has a value, and no clause is false.
+    Satisfied,
+    /// The empty clause was learned.
+    Refuted,
+    /// As many clauses were learned as the budget allows.
+    Spent,
+}
+
+/// Decides the least variable without value, if there is one.
+fn decide(trail: &mut Trail) -> Result<Round, NoMemory>
+    ensures decided { result ≡ Ok Round.Decided → IsDecided trail.old trail.new }
+    ensures satisfied { result ≡ Ok Round.Satisfied → (trail.new ≡ trail.old) × AreValued trail.old.vars (known_by trail.old.values) }
+    ensures other { IfOk result (λ round. (round ≡ Round.Decided) ⊎ (round ≡ Round.Satisfied)) }
+{
+    let Some(lit) = least_unassigned(trail) else {
+        return Ok(Round::Satisfied);
+    };
+    trail.push(lit, None)?;
+    Ok(Round::Decided)
+}
+
+/// Ends a round at a conflict.
+fn end_at_conflict<L: Ledger>(
+    alloc: Global,
+    ledger: &mut L,
+    work: &mut Work,
+    conflict: usize,
+    left: u32,
+) -> Result<Round, LearnFault>
+    requires goes { Goes (record { book = L.book ledger.old; broken = L.broken ledger.old; clauses = work.old.clauses; track = work.old.trail; width = room work.old.seen }) }
+    requires conflict { IsConflictAt work.old.clauses (known_by work.old.trail.values) conflict }
+    requires few { length work.old.clauses < 2147483647 }
+    ensures so { IfOk result (λ round. RoundSo round (record { book = L.book ledger.old; broken = L.broken ledger.old; clauses = work.old.clauses; track = work.old.trail; width = room work.old.seen }) (record { book = L.book ledger.new; broken = L.broken ledger.new; clauses = work.new.clauses; track = work.new.trail; width = room work.new.seen }) left) }
+    ensures at_most { LearnsUpTo (L.book ledger.old) (L.book ledger.new) left }
+    ensures cause { result ≡ Err LearnFault.Failed → Rose (L.faults ledger.old) (L.faults ledger.new) }
+    ensures later { L.faults ledger.old ≤ L.faults ledger.new }
+    ensures origin { (L.origin ledger.new ≡ L.origin ledger.old) ⊎ (L.origin ledger.new ≡ []) }
+{
+    let Some(start) = last_decision(&work.trail) else {
+        refute_conflict(alloc, ledger, work, conflict)?;
+        return Ok(Round::Refuted);
+    };
+    if left == 0 {
+        return Ok(Round::Spent);
+    }
+    learn_conflict(alloc, ledger, work, conflict, start)?;
+    Ok(Round::Learned)
+}
+
+/// One round: propagation, and what comes after it. So many clauses may still be learned.
+fn next_round<L: Ledger>(
+    alloc: Global,
+    ledger: &mut L,
+    work: &mut Work,
+    left: u32,
+) -> Result<Round, LearnFault>
+    requires goes { Goes (record { book = L.book ledger.old; broken = L.broken ledger.old; clauses = work.old.clauses; track = work.old.trail; width = room work.old.seen }) }
+    requires few { length work.old.clauses < 2147483647 }
+    ensures so { IfOk result (λ round. RoundSo round (record { book = L.book ledger.old; broken = L.broken ledger.old; clauses = work.old.clauses; track = work.old.trail; width = room work.old.seen }) (record { book = L.book ledger.new; broken = L.broken ledger.new; clauses = work.new.clauses; track = work.new.trail; width = room work.new.seen }) left) }
+    ensures at_most { LearnsUpTo (L.book ledger.old) (L.book ledger.new) left }
+    ensures cause { result ≡ Err LearnFault.Failed → Rose (L.faults ledger.old) (L.faults ledger.new) }
+    ensures later { L.faults ledger.old ≤ L.faults ledger.new }
+    ensures origin { (L.origin ledger.new ≡ L.origin ledger.old) ⊎ (L.origin ledger.new ≡ []) }
+{
+    match propagate(&mut work.trail, &work.clauses)? {
+        None => Ok(decide(&mut work.trail)?),
+        Some(conflict) => end_at_conflict(alloc, ledger, work, conflict, left),
+    }
+}
+
+/// Searches from the start, learning at most so many clauses that are not empty.
+pub fn search<L: Ledger>(
+    alloc: Global,
+    ledger: &mut L,
+    work: &mut Work,
+    budget: u32,
+) -> Result<Ending, LearnFault>
+    requires ready { IsReady (L.book ledger.old) (L.broken ledger.old) work.old.clauses work.old.trail (room work.old.seen) }
+    requires within { length work.old.clauses + budget < 2147483647 }
+    ensures so { IfOk result (λ ending. SearchSo ending (record { book = L.book ledger.old; broken = L.broken ledger.old; clauses = work.old.clauses; track = work.old.trail; width = room work.old.seen }) (record { book = L.book ledger.new; broken = L.broken ledger.new; clauses = work.new.clauses; track = work.new.trail; width = room work.new.seen }) budget) }
+    ensures at_most { LearnsUpTo (L.book ledger.old) (L.book ledger.new) budget }
+    ensures cause { result ≡ Err LearnFault.Failed → Rose (L.faults ledger.old) (L.faults ledger.new) }
+    ensures later { L.faults ledger.old ≤ L.faults ledger.new }
+    ensures origin { (L.origin ledger.new ≡ L.origin ledger.old) ⊎ (L.origin ledger.new ≡ []) }
+{
+    work.trail.back(0);
+    let mut learned = 0;
+    loop {
+        match next_round(alloc, ledger, work, budget - learned)? {
+            Round::Learned => learned += 1,
+            Round::Decided => {}
+            Round::Satisfied => return Ok(Ending::Satisfied),
+            Round::Refuted => return Ok(Ending::Refuted),
+            Round::Spent => return Ok(Ending::Spent),
+        }
+    }
+}
