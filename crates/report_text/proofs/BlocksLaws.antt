@@ -114,9 +114,9 @@ misses_wider v kind text first n [] e later other rest x k t one unmet number no
       unmet = λ more meets. neither (subst (λ z. (inner : List Expected) → Meets z (words other) inner → ⊥) (sym same) unmet) more meets;
       number_is = number;
     } where
-  neither : ((inner : List Expected) → Meets (Heading v) (words other) inner → ⊥) → (more : List Expected) → Meets (HeadingOrEnd v) (words other) more → ⊥
-  neither closed more (inl ended) = first_word_end v other rest text none t ended.0
-  neither closed more (inr opened) = closed opened.0 opened.1
+      neither : ((inner : List Expected) → Meets (Heading v) (words other) inner → ⊥) → (more : List Expected) → Meets (HeadingOrEnd v) (words other) more → ⊥
+      neither closed more (inl ended) = first_word_end v other rest text none t ended.0
+      neither closed more (inr opened) = closed opened.0 opened.1
 misses_wider v kind text first n (l ∷ front) e later other rest x k t one unmet number none = record {
   front = l ∷ front;
   expected = e;

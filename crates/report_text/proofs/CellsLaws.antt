@@ -86,10 +86,10 @@ no_defects-byte row many b within here none ds e =
     let inside : many < length ds = let long = ap length e in omega (arith, within, long, length-map ds defect_byte) in
     let found = at_place ds many inside in
     none found.0 (here ∙ ap (λ z. get_or z many 0) e ∙ found.1) where
-  at_place : (ds : List Defect) (k : ℕ) → k < length ds → (d : Defect) × (get_or (map defect_byte ds) k 0 ≡ defect_byte d)
-  at_place [] k h = absurd (omega (arith, h))
-  at_place (d ∷ ds) zero h = (d, refl)
-  at_place (d ∷ ds) (suc k) h = at_place ds k (omega (arith, h))
+      at_place : (ds : List Defect) (k : ℕ) → k < length ds → (d : Defect) × (get_or (map defect_byte ds) k 0 ≡ defect_byte d)
+      at_place [] k h = absurd (omega (arith, h))
+      at_place (d ∷ ds) zero h = (d, refl)
+      at_place (d ∷ ds) (suc k) h = at_place ds k (omega (arith, h))
 
 pub all_defects : (row : List ℕ) (old new : List Defect) (many cols : ℕ) → HasDefects row old new many → length row ≤ many → length row ≡ cols
     → (ds : List Defect) × (length ds ≡ cols) × (row ≡ map defect_byte ds) × (new ≡ old ++ ds)

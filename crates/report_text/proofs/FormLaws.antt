@@ -48,8 +48,8 @@ undecided =
     told_as (λ p h. (h.0.0, record { size = h.0.1.1.0; area = h.1; few = h.0.1.1.1.0 })) (λ p h. ((h.0, (bound_small p h.1, (h.1.size, (h.1.few, tt)))), h.1.area))
     (only (λ p. p.1.0 ≡ p.1.1.0.rows * p.1.1.0.cols) (λ p. tested_eq p.1.0 (p.1.1.0.rows * p.1.1.0.cols))
     (after (codes "undecided") refl (then sizes (after (codes "least") refl (then (numbers 1048576 (omega arith)) (after (codes "at") refl (then sizes (after (codes "after") refl (then (numbers 200000 (omega arith)) nothing))))))))) where
-  bound_small : (p : Bound) → IsBound p.1.0 p.1.1.0 p.1.1.1.0 → p.1.0 ≤ 1048576
-  bound_small p h = let area = h.area in let few = h.size.few in omega (arith, area, few)
+      bound_small : (p : Bound) → IsBound p.1.0 p.1.1.0 p.1.1.1.0 → p.1.0 ≤ 1048576
+      bound_small p h = let area = h.area in let few = h.size.few in omega (arith, area, few)
 
 -- an array, and what follows
 array_then : {B : Type 0} {Js : B → Type 0} {line : B → List (List ℕ)} → SpellsLine B Js line → SpellsLine (Defects × B) (λ p. IsArray p.0 × Js p.1) (λ p. size_text p.0.size ∷ array_text p.0 ∷ line p.1)

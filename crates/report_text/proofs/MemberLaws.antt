@@ -247,10 +247,13 @@ unfolding block_lines
 blocks_lead v [] each = refl
 blocks_lead v (b ∷ blocks) each =
     let is = All-head (IsBlock v) b blocks each in
-    leads_append (blocks_expected v) (blocks_expected v) (blocks_expected v) (block_lines v b) (flat_map (block_lines v) blocks)
-    (after_heading v (form_of b.answer) ++ blocks_expected v, refl, inr (after_heading v (form_of b.answer), opens_block v b is, refl),
-    subst (λ z. Leads z (lattice_lines (lattice_of b.answer) ++ proofs_lines (lists v (form_of b.answer)) b.proofs) (blocks_expected v)) (sym (append-nil (after_heading v (form_of b.answer) ++ blocks_expected v)))
-    (body_lead v b (blocks_expected v) is))
+    leads_append (blocks_expected v) (blocks_expected v) (blocks_expected v) (block_lines v b) (flat_map (block_lines v) blocks) (
+      after_heading v (form_of b.answer) ++ blocks_expected v,
+      refl,
+      inr (after_heading v (form_of b.answer), opens_block v b is, refl),
+      subst (λ z. Leads z (lattice_lines (lattice_of b.answer) ++ proofs_lines (lists v (form_of b.answer)) b.proofs) (blocks_expected v)) (sym (append-nil (after_heading v (form_of b.answer) ++ blocks_expected v)))
+          (body_lead v b (blocks_expected v) is),
+    )
     (blocks_lead v blocks (All-tail (IsBlock v) b blocks each))
 
 pub end_lead : (v : Version) → Leads (blocks_expected v) (end_line ∷ []) []
@@ -288,9 +291,13 @@ rails_lead versions.One rails later is = refl
 rails_lead versions.Two rails later is = ([], refl, (rails, is, refl, refl), refl)
 
 pub head_lead : (v : Version) (rails : ℕ) (names : List (List ℕ)) → AreRails v rails → AreNames names → Leads report_expected (head_lines v rails names) (blocks_expected v)
-head_lead v rails names is are =
-    (after_title v, refl, (v, refl, refl), subst (λ z. Leads z (inputs_line names ∷ rails_lines v rails) (blocks_expected v)) (sym (append-nil (after_title v)))
-    ([], refl, (names, are, refl, refl), rails_lead v rails (blocks_expected v) is))
+head_lead v rails names is are = (
+  after_title v,
+  refl,
+  (v, refl, refl),
+  subst (λ z. Leads z (inputs_line names ∷ rails_lines v rails) (blocks_expected v)) (sym (append-nil (after_title v)))
+      ([], refl, (names, are, refl, refl), rails_lead v rails (blocks_expected v) is),
+)
 
 pub report_lead : (r : ReportParts) → IsReport r → Leads report_expected (report_lines r) []
 unfolding report_lines

@@ -172,9 +172,11 @@ each {A} {Is} {text} S = record {
       let first = S.same x y (All-head Is x xs p) (All-head Is y ys q) parts.0 in
       let later = same_each xs ys (All-tail Is x xs p) (All-tail Is y ys q) parts.1 in
       λ i. first i ∷ later i
+
   plain_each : (at : ℕ) → at < 33 → (xs : List A) → All Is xs → AllByRecursion (Without at) (map text xs)
   plain_each at h [] p = tt
   plain_each at h (x ∷ xs) p = (S.plain at h x (All-head Is x xs p), plain_each at h xs (All-tail Is x xs p))
+
   test_each : (ws : List (List ℕ)) → Tested ((xs : List A) × All Is xs × (ws ≡ map text xs))
   test_each [] = inl ([], All-nil Is, refl)
   test_each (w ∷ ws) = elim (S.tested w) [
@@ -187,6 +189,7 @@ each {A} {Is} {text} S = record {
     others : (((xs : List A) × All Is xs × (ws ≡ map text xs)) → ⊥) → (ys : List A) → All Is ys → w ∷ ws ≡ map text ys → ⊥
     others none [] q g = absurd cc
     others none (y ∷ ys) q g = none (ys, All-tail Is y ys q, (headed w (text y) ws (map text ys) g).1)
+
     first : (((x : A) × Is x × (w ≡ text x)) → ⊥) → (ys : List A) → All Is ys → w ∷ ws ≡ map text ys → ⊥
     first none [] q g = absurd cc
     first none (y ∷ ys) q g = none (y, All-head Is y ys q, (headed w (text y) ws (map text ys) g).0)

@@ -222,6 +222,7 @@ tested_defects (b ∷ w) = elim (tested_defect b) [
   others : (((ds : List Defect) × (w ≡ map defect_byte ds)) → ⊥) → (ds : List Defect) → b ∷ w ≡ map defect_byte ds → ⊥
   others none [] f = absurd cc
   others none (d ∷ ds) f = none (ds, cc)
+
   first : (((d : Defect) × (b ≡ defect_byte d)) → ⊥) → (ds : List Defect) → b ∷ w ≡ map defect_byte ds → ⊥
   first none [] f = absurd cc
   first none (d ∷ ds) f = none (d, cc)

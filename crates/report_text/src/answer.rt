@@ -29,14 +29,25 @@ pub enum Answer {
         after: u32,
     },
     /// A lattice of an array's shape that realises the output on that array.
-    Mapped { grid: Grid, array: Array },
+    Mapped {
+        grid: Grid,
+        array: Array,
+    },
     /// No lattice realises the output on this array.
-    NoneMapped { array: Array },
+    NoneMapped {
+        array: Array,
+    },
     /// It is not known whether one does: the question was given up after so many steps.
-    MapUndecided { array: Array, after: u32 },
+    MapUndecided {
+        array: Array,
+        after: u32,
+    },
     /// No lattice of allowed literals realises the output: none of them is 1 at `on`, where the output is 1, and 0 at
     /// `off`, where it is 0.
-    NoRails { on: Assign, off: Assign },
+    NoRails {
+        on: Assign,
+        off: Assign,
+    },
 }
 
 impl Answer {
@@ -47,7 +58,8 @@ impl Answer {
         match self {
             Answer::Found(grid) | Answer::Minimum(grid) => Some(grid),
             Answer::Undecided { grid, .. } | Answer::Mapped { grid, .. } => Some(grid),
-            Answer::NoneMapped { .. } | Answer::MapUndecided { .. } | Answer::NoRails { .. } => None,
+            Answer::NoneMapped { .. } | Answer::MapUndecided { .. } | Answer::NoRails { .. } =>
+                None,
         }
     }
 
@@ -101,7 +113,11 @@ impl Block {
         ensures count { result ≡ lines_in version (parts_of_block self.now) }
         ensures few { result ≤ 1048578 }
     {
-        let proofs = if self.answer.lists_proofs(version) { 1 } else { 0 };
+        let proofs = if self.answer.lists_proofs(version) {
+            1
+        } else {
+            0
+        };
         self.answer.rows() + proofs + 1
     }
 }

@@ -90,11 +90,7 @@ fn cells_at(
 }
 
 /// The proofs on the line at the front of the bytes, and what follows it.
-fn proofs_line(
-    alloc: Global,
-    bytes: &[u8],
-    line: u32,
-) -> Result<(Vec<Proof>, &[u8]), BlockFault>
+fn proofs_line(alloc: Global, bytes: &[u8], line: u32) -> Result<(Vec<Proof>, &[u8]), BlockFault>
     ensures { MatchResult result
         (λ found. HasProofs true bytes.now found.0.items found.1.now)
         (λ fault. (later : List Expected) → Stops (proofs_expected true ++ later) bytes.now line (refusal_of fault)) }

@@ -37,8 +37,14 @@ pub enum Form {
     },
     Mapped(Array),
     NoneMapped(Array),
-    MapUndecided { array: Array, after: u32 },
-    NoRails { on: Assign, off: Assign },
+    MapUndecided {
+        array: Array,
+        after: u32,
+    },
+    NoRails {
+        on: Assign,
+        off: Assign,
+    },
 }
 
 /// The shape of the lattice that follows, where one does.
@@ -83,9 +89,9 @@ fn sized(line: &[u8], word: &[u8]) -> Option<Shape>
 fn bound_of(line: &[u8]) -> Option<(u32, Shape, u32)>
     ensures { MatchOption result
         ((least : ℕ) (at : Size) (after : ℕ) → IsBound least at after →
-            words line.now ≢ codes "least" ∷ decimal least ∷ codes "at" ∷ size_text at ∷ codes "after" ∷ decimal after ∷ [])
+        words line.now ≢ codes "least" ∷ decimal least ∷ codes "at" ∷ size_text at ∷ codes "after" ∷ decimal after ∷ [])
         (λ found. IsBound found.0 found.1 found.2 ×
-            (words line.now ≡ codes "least" ∷ decimal found.0 ∷ codes "at" ∷ size_text found.1 ∷ codes "after" ∷ decimal found.2 ∷ [])) }
+        (words line.now ≡ codes "least" ∷ decimal found.0 ∷ codes "at" ∷ size_text found.1 ∷ codes "after" ∷ decimal found.2 ∷ [])) }
 {
     let line = behind(line, b"least")?;
     let (least, line) = number_at(line, u32::MAX)?;

@@ -165,11 +165,7 @@ impl Spelled for Proof {
 }
 
 /// Puts a word behind a blank.
-fn put_word<T: Spelled, K: Sink>(
-    buffer: &mut Buffer,
-    sink: &mut K,
-    word: &T,
-) -> Result<(), Failed>
+fn put_word<T: Spelled, K: Sink>(buffer: &mut Buffer, sink: &mut K, word: &T) -> Result<(), Failed>
     ensures { Puts (K.got sink.old) (K.got sink.new) buffer.old buffer.new (K.faults sink.old) (K.faults sink.new) result (32 ∷ T.text word.now) }
 {
     buffer.put(sink, b" ")?;
@@ -273,7 +269,12 @@ fn put_heading<K: Sink>(buffer: &mut Buffer, sink: &mut K, block: &Block) -> Res
             put_line(buffer, sink, b"output", &form)
         }
         Answer::Minimum(grid) => {
-            let form = [output, name, Word::Text(b"minimum"), Word::Size(grid.shape())];
+            let form = [
+                output,
+                name,
+                Word::Text(b"minimum"),
+                Word::Size(grid.shape()),
+            ];
             put_line(buffer, sink, b"output", &form)
         }
         Answer::Undecided {
@@ -398,11 +399,7 @@ pub fn write_block<K: Sink>(sink: &mut K, block: &Block) -> Result<(), Failed>
 }
 
 /// Puts the first line of a report.
-fn put_title<K: Sink>(
-    buffer: &mut Buffer,
-    sink: &mut K,
-    version: Version,
-) -> Result<(), Failed>
+fn put_title<K: Sink>(buffer: &mut Buffer, sink: &mut K, version: Version) -> Result<(), Failed>
     ensures { Puts (K.got sink.old) (K.got sink.new) buffer.old buffer.new (K.faults sink.old) (K.faults sink.new) result (words_text (title_line version).words) }
 {
     match version {
@@ -443,11 +440,7 @@ fn put_head<K: Sink>(
 
 /// Writes the three lines before the blocks of a text of version 2, with one to ten names and rails of at most
 /// `ALL_RAILS`, or a front of them where the sink fails.
-pub fn write_head<K: Sink>(
-    sink: &mut K,
-    names: &IndexSet<Name>,
-    rails: u32,
-) -> Result<(), Failed>
+pub fn write_head<K: Sink>(sink: &mut K, names: &IndexSet<Name>, rails: u32) -> Result<(), Failed>
     requires names { AreNames (map bytes_of names.now.keys) }
     requires rails { rails ≤ 1048575 }
     ensures ok { OnOk result (Gains (K.got sink.old) (K.got sink.new) (head_text Two rails (map bytes_of names.now.keys))) }
@@ -487,7 +480,13 @@ fn put_blocks<K: Sink>(
 fn put_report<K: Sink>(buffer: &mut Buffer, sink: &mut K, report: &Report) -> Result<(), Failed>
     ensures { Puts (K.got sink.old) (K.got sink.new) buffer.old buffer.new (K.faults sink.old) (K.faults sink.new) result (report_text (parts_of_report report.now)) }
 {
-    put_head(buffer, sink, report.version, report.rails, &report.input_names)?;
+    put_head(
+        buffer,
+        sink,
+        report.version,
+        report.rails,
+        &report.input_names,
+    )?;
     put_blocks(buffer, sink, &report.blocks, report.version)?;
     buffer.put(sink, b"end\n")
 }
