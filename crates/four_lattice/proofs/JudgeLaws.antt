@@ -18,7 +18,7 @@ use Rattle.pla_reader.proofs.AnswersLaws.{Reads-once, Refused-once, Reads-or_Ref
 use Rattle.report_text.specs.declared.report.ReportRefusal.{ReportRefusal}
 use Rattle.report_text.specs.Reading.{Gives, IsRefused}
 use Rattle.report_text.specs.Report.{ReportParts}
-use Rattle.report_text.proofs.OneLaws.{one_answer}
+use Rattle.report_text.proofs.AnswerLaws.{one_answer}
 use Rattle.four_lattice.specs.Check.{IsAccepted, adds_empty, end_line}
 use Rattle.four_lattice.specs.Judge.{Texts, Task, Judgement, Refused, Accepted, Lattices, Encoding, Realised, Refuted, Stage, Last, TextRefuses, as_pla, as_cnf, IsCnfRefused, IsLratRefused, IsReportRefused, LratRefuses, LratGives, ReportRefuses, ReportGives, LacksOutput, LacksFunction, Denies, LinesStop, LinesRefuse, LatticesCome, EncodingComes, VerifyComes, CheckComes, JobComes, Comes}
 use Rattle.four_lattice.specs.Laws.{IsOneJudgement}
