@@ -92,8 +92,10 @@ fn a_lattice_is_a_solution(rt: HostRuntime) -> Result<(), Fail> {
     let grid = pairs(alloc, &spec)?;
     assert_eq!(rt; grid.shape().rows(), 2);
     assert_eq!(rt; grid.shape().cols(), 2);
-    let formula = encode(alloc, &spec, Rails::all(), grid.shape(), None)?;
-    let values = model_of(alloc, &spec, Rails::all(), &grid, None)?;
+    let rails = Rails::all();
+    assert!(rt; grid.allowed(spec.inputs(), rails));
+    let formula = encode(alloc, &spec, rails, grid.shape(), None)?;
+    let values = model_of(alloc, &spec, rails, &grid, None)?;
     assert_eq!(rt; formula.vars(), 56);
     assert_eq!(rt; values.vars(), 56);
     assert!(rt; formula.satisfied_by(&values));
