@@ -69,9 +69,10 @@ fn columns_of_all_literals(rt: HostRuntime) -> Result<(), Fail> {
     let spec = conjunction().ok_or("a function")?;
     assert!(rt; spec.on().first().is_some());
     assert!(rt; spec.off().first().is_some());
-    match pairs_with(rt.alloc(), &spec, Rails::all())? {
+    let rails = Rails::all();
+    match pairs_with(rt.alloc(), &spec, rails)? {
         Start::Grid(_) => {
-            let grid = columns(rt.alloc(), &spec, Rails::all())?;
+            let grid = columns(rt.alloc(), &spec, rails)?;
             assert_eq!(rt; grid.shape().rows(), 2);
             assert_eq!(rt; grid.shape().cols(), 1);
             assert_eq!(rt; grid.row(0), [Control::Plain(0)].as_slice());
