@@ -10,6 +10,8 @@ pub mod model;
 pub mod propagate;
 pub mod search;
 pub mod solver;
+#[cfg(test)]
+mod tests;
 pub mod trail;
 pub mod value;
 pub mod verdict;
