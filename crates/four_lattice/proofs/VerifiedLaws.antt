@@ -234,7 +234,7 @@ one_block_refusal basis least line block (Wrong at x) (Wrong other y) p q =
     let same = one_function basis least block q.2 p.2 q.3.of_output p.3.of_output in
     let lattice = one_lattice (lattice_of block.answer) q.1 p.1 q.3.lattice p.3.lattice in
     let assign = one_least p.1 (array_in block.answer) p.2 x y p.5
-        (subst (λ g. IsLeastFailureIn g (array_in block.answer) p.2 y) lattice (subst (λ f. IsLeastFailureIn q.1 (array_in block.answer) f y) same q.5)) in
+    (subst (λ g. IsLeastFailureIn g (array_in block.answer) p.2 y) lattice (subst (λ f. IsLeastFailureIn q.1 (array_in block.answer) f y) same q.5)) in
     ap (λ l. Wrong l x) (p.0 ∙ sym q.0) ∙ ap (Wrong other) assign
 
 -- the first refused block is one alone
