@@ -156,7 +156,7 @@ fn odd_parity_of_ten_inputs(rt: HostRuntime) -> Result<(), Fail> {
     let words = words_of(alloc, DUAL)?;
     let mut pla = FirmSource::new(parity(alloc)?, 4096);
     let mut side = FirmSource::new(Vec::new(alloc), 4);
-    let mut out = FirmSink::new(alloc, 100, 8192)?;
+    let mut out = FirmSink::new(alloc, 150, 8192)?;
     let mut notes = FirmSink::new(alloc, 200, 1)?;
     let journal = FirmSink::new(alloc, 1, 1)?;
     let ended = run(
