@@ -2,7 +2,7 @@ use Rattle.std.proofs.Common.{length, option_copied, subst, sym}
 use Rattle.lattice_grid.specs.Rails.{controls_of}
 use Rattle.reach_encoding.specs.Decode.{Chooses}
 use Rattle.reach_encoding.specs.Encoding.{Question}
-use Rattle.lattice_rows.proofs.encoding.lattice_of.Goals as goal
+use Rattle.grid_rows.proofs.encoding.lattice_of.Goals as goal
 
 pub decode-requires-clause-chosen : goal.decode-requires-clause-chosen
 decode-requires-clause-chosen c =

@@ -1,16 +1,14 @@
-//! Runs of the command `cnf`, and encodings and their solutions.
+//! Encodings and their solutions.
 ghost use Rattle.std.specs.Prelude.{◌≡◌, ◌*◌, ◌≤◌, IfOk, IfSome, option_copied};
 ghost use Rattle.clause_core.specs.Formula.{IsSatisfiedBy};
 ghost use Rattle.lattice_grid.specs.Rails.{IsOverRails};
 ghost use Rattle.path_meaning.specs.Defective.{RealisesIn};
 ghost use Rattle.reach_encoding.specs.Encoding.{encoding};
 
-use crate::row::{Row, done, refused, try_row};
+use crate::functions::{conjunction, exclusive_or};
 use clause_core::valuation::Valuation;
-use cube_core::assign::Assign;
 use cube_core::spec::Spec;
 use cube_core::table::Table;
-use four_lattice::status::Status;
 use lattice_grid::array::{Array, Defect};
 use lattice_grid::control::Control;
 use lattice_grid::grid::Grid;
@@ -24,74 +22,6 @@ use reach_encoding::model::model_of;
 use std::alloc::{AllocError, Global};
 use std::test::Fail;
 use wire_io::fault::NoMemory;
-
-/// One input, and an output that is that input.
-const ONE: &str = ".i 1\n.o 1\n1 1\n.e\n";
-
-/// The formula of one cell for it.
-const ONE_CELL: &str =
-    "p cnf 8 13\n1 2 3 4 0\n-1 -5 0\n-1 -6 0\n-2 5 0\n-2 6 0\n-3 -5 0\n-3 6 0\n-4 5 0\n-4 -6 0\n-5 7 0\n-7 0\n6 8 0\n-8 0\n";
-
-/// Words that are refused.
-fn refused_words(words: &'static [&'static str]) -> Row {
-    refused(words, ONE, "", Status::Words, "words refused\n")
-}
-
-#[test]
-fn formulas(rt: HostRuntime) -> Result<(), Fail> {
-    let rows = [
-        done(&["cnf", "--rows", "1", "--cols", "1"], ONE, "", ONE_CELL),
-        done(
-            &["cnf", "--cols", "1", "--output", "0", "--rows", "1"],
-            ONE,
-            "",
-            ONE_CELL,
-        ),
-        // No assignment is asked.
-        done(
-            &["cnf", "--rows", "1", "--cols", "1"],
-            ".i 1\n.o 1\n.type fr\n.e\n",
-            "",
-            "p cnf 4 1\n1 2 3 4 0\n",
-        ),
-        refused(
-            &["cnf", "--rows", "1", "--cols", "1", "--output", "1"],
-            ONE,
-            "",
-            Status::Input,
-            "input refused: NoSuchOutput\n",
-        ),
-        refused_words(&["cnf"]),
-        refused_words(&["cnf", "--rows", "1"]),
-        refused_words(&["cnf", "--rows", "0", "--cols", "1"]),
-        refused_words(&["cnf", "--rows", "1", "--cols", "17"]),
-        refused_words(&["cnf", "--rows", "1", "--cols", "1", "J"]),
-        refused_words(&["pairs", "--rows", "1"]),
-    ];
-    for row in &rows {
-        try_row(&rt, rt.alloc(), row)?;
-    }
-    Ok(())
-}
-
-/// The two-input function that is 1 where exactly one input is.
-fn exclusive_or() -> Option<Spec> {
-    let mut on = Table::empty();
-    on.add(Assign::new(1)?);
-    on.add(Assign::new(2)?);
-    let mut off = Table::empty();
-    off.add(Assign::new(0)?);
-    off.add(Assign::new(3)?);
-    Spec::new(2, on, off)
-}
-
-/// Two inputs at once.
-fn conjunction() -> Option<Spec> {
-    let mut on = Table::empty();
-    on.add(Assign::new(3)?);
-    let off = on.complement(2);
-    Spec::new(2, on, off)
-}
 
 #[test]
 fn a_lattice_is_a_solution(rt: HostRuntime) -> Result<(), Fail> {

@@ -1,20 +1,10 @@
 //! Lattices of allowed literals.
-use cube_core::assign::Assign;
-use cube_core::spec::Spec;
-use cube_core::table::Table;
+use crate::functions::conjunction;
 use lattice_grid::columns::columns;
 use lattice_grid::control::Control;
 use lattice_grid::rails::Rails;
 use lattice_grid::start::{Start, pairs_with};
 use std::test::Fail;
-
-/// Two inputs at once.
-fn conjunction() -> Option<Spec> {
-    let mut on = Table::empty();
-    on.add(Assign::new(3)?);
-    let off = on.complement(2);
-    Spec::new(2, on, off)
-}
 
 #[test]
 fn which_are_allowed(rt: HostRuntime) -> Result<(), Fail> {

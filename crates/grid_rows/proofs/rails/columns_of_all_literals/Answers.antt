@@ -5,7 +5,7 @@ use Rattle.lattice_grid.specs.declared.start.Start.TheVariants.{Grid, Lacking}
 use Rattle.lattice_grid.specs.Columns.{IsNotLacking}
 use Rattle.lattice_grid.specs.Lattice.{Lattice}
 use Rattle.lattice_grid.specs.Start.{pairs_over}
-use Rattle.lattice_rows.proofs.rails.columns_of_all_literals.Goals as goal
+use Rattle.grid_rows.proofs.rails.columns_of_all_literals.Goals as goal
 
 -- where the answer is a lattice no pair is lacking
 lattice_or_pair : (g : Lattice) (x y : ℕ) → Grid g ≡ Lacking x y → ⊥
