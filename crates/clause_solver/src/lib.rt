@@ -1,17 +1,17 @@
 //! Search for a valuation, with each learned clause as a step of a ledger.
 #![tactic(auto)]
 
-pub mod analyse;
-pub mod conflict;
-pub mod decide;
-pub mod learn;
-pub mod level;
-pub mod model;
-pub mod propagate;
-pub mod search;
+mod analyse;
+mod conflict;
+mod decide;
+mod learn;
+mod level;
+mod model;
+mod propagate;
+mod search;
 pub mod solver;
 #[cfg(test)]
 mod tests;
-pub mod trail;
-pub mod value;
+mod trail;
+mod value;
 pub mod verdict;
