@@ -1,10 +1,15 @@
-use crate::answer::Version;
+ghost use Rattle.std.specs.Prelude.{◌≤◌, length, IfSome};
+ghost use Rattle.report_text.specs.Bounds.{IsReport};
+ghost use Rattle.report_text.specs.Report.{parts_of_report};
+
+use crate::answer::{Report, Version};
 use crate::array::read_rows;
 use crate::block::{BlockFault, read_block};
 use crate::report::{ReportRefusal, read_report};
 use crate::shape::read_shape;
 use crate::write::write_report;
 use lattice_grid::shape::Shape;
+use std::alloc::Global;
 use std::test::*;
 use wire_io::memory::MemorySink;
 
@@ -16,11 +21,20 @@ const FIRST: &[u8] =
 const SECOND: &[u8] =
     b"lattice report 2\ninputs x0 x1\nrails 15\noutput 0 a found 1x2\nx0 x1'\noutput 1 b minimum 1x1\n0\nrefuted\noutput 2 c undecided 2x1 least 1 at 1x1 after 200000\nx0\n1\nrefuted 1x1:1 2x3:2147483647\noutput 3 d mapped 1x2 .o\nx1 x0\noutput 4 e none 2x2 ../.o\nrefuted 2x2:7\noutput 5 f stopped 1x1 c after 3\noutput 63 g norails 3 1023\nend\n";
 
+/// The report that a text spells.
+fn spelled(alloc: Global, text: &[u8]) -> Option<Report>
+    requires { length text.now ≤ 536870912 }
+    ensures { IfSome result (λ report. IsReport (parts_of_report report)) }
+{
+    match read_report(alloc, text) {
+        Ok(report) => Some(report),
+        Err(_) => None,
+    }
+}
+
 #[test]
 fn first_version(rt: HostRuntime) -> Result<(), Fail> {
-    let report = read_report(rt.alloc(), FIRST)
-        .ok()
-        .ok_or("the text spells a report")?;
+    let report = spelled(rt.alloc(), FIRST).ok_or("the text spells a report")?;
     assert_eq!(rt; report.version, Version::One);
     assert_eq!(rt; report.rails, 1_048_575);
     assert_eq!(rt; report.blocks.len(), 1);
@@ -34,9 +48,7 @@ fn first_version(rt: HostRuntime) -> Result<(), Fail> {
 
 #[test]
 fn second_version(rt: HostRuntime) -> Result<(), Fail> {
-    let report = read_report(rt.alloc(), SECOND)
-        .ok()
-        .ok_or("the text spells a report")?;
+    let report = spelled(rt.alloc(), SECOND).ok_or("the text spells a report")?;
     assert_eq!(rt; report.version, Version::Two);
     assert_eq!(rt; report.rails, 15);
     assert_eq!(rt; report.blocks.len(), 7);
@@ -49,7 +61,9 @@ fn second_version(rt: HostRuntime) -> Result<(), Fail> {
 }
 
 /// What a text is refused for.
-fn refusal(rt: &HostRuntime, text: &[u8]) -> Option<ReportRefusal> {
+fn refusal(rt: &HostRuntime, text: &[u8]) -> Option<ReportRefusal>
+    requires { length text.now ≤ 536870912 }
+{
     read_report(rt.alloc(), text).err()
 }
 
