@@ -48,7 +48,7 @@ enum Word<'a> {
 }
 
 /// Puts the numbers of rows and columns, joined by the letter x.
-fn put_size<K: Sink>(buffer: &mut Buffer, sink: &mut K, shape: Shape) -> Result<(), Failed>
+pub fn put_size<K: Sink>(buffer: &mut Buffer, sink: &mut K, shape: Shape) -> Result<(), Failed>
     ensures { Puts (K.got sink.old) (K.got sink.new) buffer.old buffer.new (K.faults sink.old) (K.faults sink.new) result (size_text shape) }
 {
     let mut rows_digits = Digits::new();
@@ -59,7 +59,7 @@ fn put_size<K: Sink>(buffer: &mut Buffer, sink: &mut K, shape: Shape) -> Result<
 }
 
 /// Puts a number behind a lead.
-fn put_number<K: Sink>(
+pub fn put_number<K: Sink>(
     buffer: &mut Buffer,
     sink: &mut K,
     lead: &[u8],
@@ -116,8 +116,8 @@ fn put_array_row<K: Sink>(
     put_defects(buffer, sink, array, row)
 }
 
-/// Puts the rows of an array, joined by `/`.
-fn put_array<K: Sink>(buffer: &mut Buffer, sink: &mut K, array: &Array) -> Result<(), Failed>
+/// Puts the rows of an array, joined by `/`, a byte for each switch, as `read_rows` reads them.
+pub fn put_array<K: Sink>(buffer: &mut Buffer, sink: &mut K, array: &Array) -> Result<(), Failed>
     ensures { Puts (K.got sink.old) (K.got sink.new) buffer.old buffer.new (K.faults sink.old) (K.faults sink.new) result (array_text array.now) }
 {
     let mut lead: &[u8] = b"";
