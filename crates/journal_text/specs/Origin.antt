@@ -16,13 +16,15 @@ begins_with [] line = true
 begins_with (b ∷ front) [] = false
 begins_with (b ∷ front) (c ∷ line) = c == b && begins_with front line
 
+-- a line and what counts of those behind it; where nothing of those counts, the line alone if it begins with `question`
+abbrev pub behind : List ℕ → List ℕ → List ℕ
+behind line [] = cond (begins_with (codes "question") line) line []
+behind line (b ∷ later) = line ++ b ∷ later
+
 -- of lines, those up to the last one that begins with `question`, one after another
 abbrev pub up_to_question : List (List ℕ) → List ℕ
 up_to_question [] = []
-up_to_question (line ∷ lines) = behind line (up_to_question lines) where
-  abbrev behind : List ℕ → List ℕ → List ℕ
-  behind line [] = cond (begins_with (codes "question") line) line []
-  behind line (b ∷ later) = line ++ b ∷ later
+up_to_question (line ∷ lines) = behind line (up_to_question lines)
 
 -- what a sink got up to the end of the last whole line that begins with `question`; nothing where it does not tell
 unfoldable pub origin_of : Option (List ℕ) → List ℕ

@@ -1,0 +1,3 @@
+pub mod TextLaws
+pub mod OriginLaws
+pub mod SectionLaws
