@@ -33,7 +33,7 @@ abbrev flat : List (List ℕ) → List ℕ
 flat ls = flat_map (λ l. l) ls
 
 -- the bytes end with a line feed, or there are none
-pub abbrev IsWhole : List ℕ → Type 0
+abbrev pub IsWhole : List ℕ → Type 0
 IsWhole bytes = (bytes ≡ []) ⊎ ((front : List ℕ) × (bytes ≡ front ++ 10 ∷ []))
 
 abbrev Question1 : Bool → List ℕ → Type 0
@@ -139,7 +139,7 @@ digit-branch at false p q h k = k
 Without-digits : (at : ℕ) → Apart at → (k n : ℕ) (acc : List ℕ) → Without at acc → Without at (digits_onto k 10 false n acc)
 Without-digits at far zero n acc h = h
 Without-digits at far (suc k) n acc h =
-    let more = (apart at (n % 10) far (omega arith), h) in
+    let more : Without at (digit_glyph false (n % 10) ∷ acc) = (apart at (n % 10) far (omega arith), h) in
     digit-branch at (n / 10 == 0) (digit_glyph false (n % 10) ∷ acc) (digits_onto k 10 false (n / 10) (digit_glyph false (n % 10) ∷ acc)) more (Without-digits at far k (n / 10) (digit_glyph false (n % 10) ∷ acc) more)
 
 pub Without-decimal : (at n : ℕ) → Apart at → Without at (decimal n)

@@ -181,7 +181,7 @@ module _ (book : Book) (before learned id : ℕ) (clause : List Literal) (hints 
 -- ---- a section is closed
 
 steps_in-append : (a b : List Part) → steps_in (a ++ b) ≡ steps_in a + steps_in b
-steps_in-append [] b = refl
+steps_in-append [] b = omega arith
 steps_in-append (Question s ∷ a) b = let e = steps_in-append a b in omega (arith, e)
 steps_in-append (Answered block ∷ a) b = steps_in-append a b
 
@@ -257,7 +257,7 @@ refutes book steps reached h =
 
 written : (book : Book) (steps : List Step) → Accepts book (map (λ x. Add x) steps) → AreNew book (without_hints steps) → AreWrittenNew book steps
 written book [] h k = tt
-written book (s ∷ steps) h k = (h.0, (k.0, written (after_addition book s.id s.clause) steps h.1 k.1))
+written book (s ∷ steps) h k = (h.0, k.0, written (after_addition book s.id s.clause) steps h.1 k.1)
 
 pub spends : (book : Book) (steps : List Step) (budget : ℕ) → length book.steps ≡ budget → AreNew (start book.formula) book.steps → AreOf book steps → SpentWritten book.formula steps budget
 spends book steps budget count fresh h = record {
