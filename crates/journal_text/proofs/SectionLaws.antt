@@ -23,11 +23,12 @@ use Rattle.lrat_replay.specs.declared.line.Step.{Step}
 use Rattle.lrat_replay.proofs.Sound.{Contains-head}
 use Rattle.lrat_replay.proofs.TallyLaws.{fits, added}
 use Rattle.report_text.specs.Pieces.{Without}
+use Rattle.report_text.specs.Report.{BlockParts, block_text}
 use Rattle.report_text.specs.declared.answer.Version.TheVariants.{Two}
 use Rattle.report_text.proofs.PiecesLaws.{Without-append, Without-front}
 use Rattle.journal_text.specs.Parts.{Part, Question, Answered, Section}
 use Rattle.journal_text.specs.Text.{front_text, question_text, steps_text, close_text}
-use Rattle.journal_text.specs.Kept.{steps_in, capped, SpellsParts, SpellsQuestion, SpellsSection, AreOf, HasLines, LastInPart, IsSection}
+use Rattle.journal_text.specs.Kept.{steps_in, capped, SpellsParts, SpellsQuestion, SpellsSection, AreOf, HasLines, LastInPart, IsSection, IsWriter}
 use Rattle.journal_text.specs.Calls.{IsClosed}
 use Rattle.journal_text.specs.Origin.{origin_of}
 use Rattle.journal_text.specs.declared.target.Close.{Close}
@@ -281,3 +282,26 @@ pub asked_next : (a b : Option (List ℕ)) (steps output : ℕ) (target : _) →
 asked_next a b steps output target h g =
     gained (λ bytes. SpellsParts bytes steps) (λ bytes. SpellsQuestion bytes steps) a b (question_text output target) g h
     (λ x k. record { rails = k.rails; parts = k.parts; output = output; target = target; text = ap (λ z. z ++ question_text output target) k.text; count = k.count })
+
+pub asked_origin : (told : Option (List ℕ)) (steps : ℕ) → IfSome told (λ bytes. SpellsQuestion bytes steps) → IfSome told (λ bytes. origin_of told ≡ bytes)
+asked_origin None steps h = tt
+asked_origin (Some bytes) steps h = asked-origin bytes steps h
+
+-- ---- an answer is written
+
+pub still_writer : (told : Option (List ℕ)) (steps : ℕ) (failed : Bool) → failed ≡ false → IsWriter told steps failed → IfSome told (λ bytes. SpellsParts bytes steps)
+still_writer told steps failed whole h = subst (IsWriter told steps) whole h
+
+answered-count : (parts : List Part) (block : BlockParts) → steps_in (parts ++ Answered block ∷ []) ≡ steps_in parts
+answered-count parts block = let e = steps_in-append parts (Answered block ∷ []) in omega (arith, e)
+
+pub answered : (a b : Option (List ℕ)) (steps : ℕ) (failed : Bool) (block : BlockParts) → failed ≡ false → IsWriter a steps failed → Gains a b (block_text Two block) → IsWriter b steps failed
+answered a b steps failed block whole h g =
+    subst (IsWriter b steps) (sym whole)
+    (gained (λ bytes. SpellsParts bytes steps) (λ bytes. SpellsParts bytes steps) a b (block_text Two block) g (still_writer a steps failed whole h)
+    (λ x k. record {
+      rails = k.rails;
+      parts = k.parts ++ Answered block ∷ [];
+      text = ap (λ z. z ++ block_text Two block) k.text ∙ sym (front-more Two k.rails k.parts (Answered block));
+      count = k.count ∙ ap capped (sym (answered-count k.parts block));
+    }))
