@@ -1,13 +1,13 @@
 -- What a section keeps, after each of its calls.
 use Rattle.std.proofs.Common.{◌≡◌, ◌⊎◌, inl, inr, ℕ, suc, ◌+◌, ◌-◌, ◌^◌, ◌<◌, ◌≤◌, min, Bool, true, false, not, ◌||◌, List, [], ◌∷◌, ◌++◌, length, map, ℤ, refl, sym, ap, ◌∙◌, subst, append_assoc, arith, length-append, None, Some}
-use Rattle.std.specs.Prelude.{IfSome}
+use Rattle.std.specs.Prelude.{IfSome, All}
 use Rattle.std.specs.declared.option.Option.{Option}
 use Rattle.std.specs.FinSet as set
 use Rattle.std.specs.List.{Contains}
 use Rattle.std.specs.Ordering.{nat_cmp}
 use Rattle.std.proofs.lemmas.Bool.{or_cases, false≢true}
 use Rattle.std.proofs.lemmas.List.{append-nil}
-use Rattle.std.proofs.lemmas.List.Elements.{Contains-append_right}
+use Rattle.std.proofs.lemmas.List.Elements.{Contains-append_right, All-append, All-cons, All-nil}
 use Rattle.std.proofs.lemmas.List.Concat.{flat_map-append}
 use Rattle.clause_core.specs.Literal.{Literal}
 use Rattle.clause_core.specs.Formula.{Formula}
@@ -15,6 +15,7 @@ use Rattle.wire_io.specs.Told.{Gains, GainsFront}
 use Rattle.lrat_replay.specs.Book.{Book, Numbered, Accepts, addition_fault, after_addition, after_lines, is_empty, last_id, last_of, some_empty, start}
 use Rattle.lrat_replay.specs.Laws.{Refutes}
 use Rattle.lrat_replay.specs.Learned.{without_hints, AreWrittenNew, SpentWritten}
+use Rattle.lrat_replay.specs.Ledger.{IsAbove0}
 use Rattle.lrat_replay.specs.LratText.{step_text}
 use Rattle.lrat_replay.specs.New.{AreNew}
 use Rattle.lrat_replay.specs.declared.line.LineKind.{LineKind}
@@ -71,9 +72,15 @@ led : (book : Book) (steps : List Step) → book.deleted ≡ set.empty → AreOf
 led book steps none h =
     after-steps book.formula set.empty [] steps ∙ (λ i. record { formula = book.formula; steps = h.same i; deleted = sym none i })
 
-are-more : (book : Book) (steps : List Step) (id : ℕ) (clause : List Literal) (hints : List ℤ) → book.deleted ≡ set.empty → addition_fault book id clause hints ≡ None → AreOf book steps
+positive-more : (steps : List Step) (id : ℕ) (clause : List Literal) (hints : List ℤ) → All IsAbove0 hints → All (λ (s : Step). All IsAbove0 s.hints) steps
+    → All (λ (s : Step). All IsAbove0 s.hints) (steps ++ record { id = id; clause = clause; hints = hints } ∷ [])
+positive-more steps id clause hints now h =
+    All-append (λ (s : Step). All IsAbove0 s.hints) steps (record { id = id; clause = clause; hints = hints } ∷ []) h (All-cons (λ (s : Step). All IsAbove0 s.hints) (record { id = id; clause = clause; hints = hints }) [] now (All-nil (λ (s : Step). All IsAbove0 s.hints)))
+
+are-more : (book : Book) (steps : List Step) (id : ℕ) (clause : List Literal) (hints : List ℤ) → All IsAbove0 hints → book.deleted ≡ set.empty → addition_fault book id clause hints ≡ None → AreOf book steps
     → AreOf (after_addition book id clause) (steps ++ record { id = id; clause = clause; hints = hints } ∷ [])
-are-more book steps id clause hints none accepted h = record {
+are-more book steps id clause hints positive none accepted h = record {
+  positive = positive-more steps id clause hints positive h.positive;
   accepted = accepts-more (start book.formula) steps (record { id = id; clause = clause; hints = hints }) h.accepted (ap (λ b. addition_fault b id clause hints) (led book steps none h) ∙ accepted);
   same = bare-more steps (record { id = id; clause = clause; hints = hints }) ∙ ap (λ z. z ++ record { id = id; clause = clause } ∷ []) h.same;
 }
@@ -119,13 +126,13 @@ last_of-push : (n : ℕ) (steps : List Numbered) (s : Numbered) → last_of n (s
 last_of-push n [] s = refl
 last_of-push n (x ∷ steps) s = last_of-push x.id steps s
 
-module _ (book : Book) (before learned id : ℕ) (clause : List Literal) (hints : List ℤ) (accepted : addition_fault book id clause hints ≡ None) where
+module _ (book : Book) (before learned id : ℕ) (clause : List Literal) (hints : List ℤ) (accepted : addition_fault book id clause hints ≡ None) (positive : All IsAbove0 hints) where
   spelled-more : (bytes : List ℕ) → book.deleted ≡ set.empty → SpellsSection bytes book false before → SpellsSection (bytes ++ step_text id clause hints) (after_addition book id clause) false before
   spelled-more bytes none h = record {
     start = h.start;
     question = h.question;
     steps = h.steps ++ record { id = id; clause = clause; hints = hints } ∷ [];
-    are = are-more book h.steps id clause hints none accepted h.are;
+    are = are-more book h.steps id clause hints positive none accepted h.are;
     lines = ap (λ z. z ++ step_text id clause hints) h.lines ∙ append_assoc h.start (steps_text h.steps) (step_text id clause hints)
       ∙ ap (λ z. h.start ++ z) (sym (text-more h.steps (record { id = id; clause = clause; hints = hints })));
   }
@@ -135,7 +142,7 @@ module _ (book : Book) (before learned id : ℕ) (clause : List Literal) (hints 
     start = h.start;
     question = h.question;
     steps = h.steps ++ record { id = id; clause = clause; hints = hints } ∷ [];
-    are = are-more book h.steps id clause hints none accepted h.are;
+    are = are-more book h.steps id clause hints positive none accepted h.are;
     lines = record {
       earlier = h.steps;
       last = record { id = id; clause = clause; hints = hints };

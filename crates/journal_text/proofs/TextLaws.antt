@@ -7,8 +7,9 @@ use Rattle.std.proofs.lemmas.List.Concat.{flat_map-append}
 use Rattle.report_text.specs.declared.answer.Version.{Version}
 use Rattle.report_text.specs.declared.answer.Version.TheVariants.{Two}
 use Rattle.journal_text.specs.declared.target.Target.{Target}
-use Rattle.journal_text.specs.Parts.{Section, Part, Question}
-use Rattle.journal_text.specs.Text.{head_text, target_text, question_text, steps_text, close_text, section_text, part_text, parts_text, front_text}
+use Rattle.journal_text.specs.Parts.{Section, Part, Question, Answered}
+use Rattle.journal_text.specs.Laws.{BeginsJournal, AddsSection, AddsAnswer, EndsJournal}
+use Rattle.journal_text.specs.Text.{head_text, target_text, question_text, steps_text, close_text, section_text, part_text, parts_text, front_text, journal_text}
 
 pub question_parts : (output : ℕ) (target : Target) → (codes "question " ++ decimal output) ++ (codes " " ++ (target_text target ++ codes "\n")) ≡ question_text output target
 unfolding question_text
@@ -36,3 +37,17 @@ pub front-section : (version : Version) (rails : ℕ) (parts : List Part) (s : S
 unfolding section_text
 front-section version rails parts s bytes e =
     e ∙ append_assoc (front_text version rails parts) (question_text s.output s.target) (steps_text s.steps ++ close_text s.close) ∙ sym (front-more version rails parts (Question s))
+
+pub begins_journal : BeginsJournal
+begins_journal version rails = sym (front-none version rails)
+
+pub adds_section : AddsSection
+adds_section version rails parts section bytes origin e text =
+    front-section version rails parts section bytes (text ∙ ap (λ z. z ++ (steps_text section.steps ++ close_text section.close)) e)
+
+pub adds_answer : AddsAnswer
+adds_answer version rails parts block = sym (front-more version rails parts (Answered block))
+
+pub ends_journal : EndsJournal
+unfolding journal_text
+ends_journal version rails parts = refl

@@ -1,10 +1,11 @@
 -- What a writer and a section keep, and how the bytes that the sink got spell it.
-use Rattle.std.specs.Prelude.{◌≡◌, ℕ, ◌-◌, ◌+◌, ◌^◌, ◌≤◌, min, Bool, true, false, List, [], ◌∷◌, ◌++◌, ⊤, length, map, None, Some, IfSome, refl}
+use Rattle.std.specs.Prelude.{◌≡◌, ℕ, ◌-◌, ◌+◌, ◌^◌, ◌≤◌, min, Bool, true, false, List, [], ◌∷◌, ◌++◌, ⊤, length, map, All, None, Some, IfSome, refl}
 use Rattle.std.specs.declared.option.Option.{Option}
 use Rattle.std.specs.Coded.{Coded, code_by, coded×, coded_ℕ, coded_bool}
 use Rattle.std.specs.FinSet as set
 use Rattle.lrat_replay.specs.Book.{Book, Accepts, last_id, start}
 use Rattle.lrat_replay.specs.Learned.{without_hints}
+use Rattle.lrat_replay.specs.Ledger.{IsAbove0}
 use Rattle.lrat_replay.specs.LratText.{step_text}
 use Rattle.lrat_replay.specs.Store.{coded_book}
 use Rattle.lrat_replay.specs.declared.line.LineKind.TheVariants.{Add}
@@ -61,8 +62,9 @@ pub record SpellsQuestion (bytes : List ℕ) (steps : ℕ) : Type 0 where
   pub text : bytes ≡ front_text Two rails parts ++ question_text output target
   pub count : steps ≡ capped (steps_in parts)
 
--- Each step is accepted by its own hints after those before it, and without their hints they are the steps of the book.
+-- Each step is accepted by its own hints, all above 0, after those before it; and without their hints they are the steps of the book.
 pub record AreOf (book : Book) (steps : List Step) : Type 0 where
+  pub positive : All (λ s. All IsAbove0 s.hints) steps
   pub accepted : Accepts (start book.formula) (map Add steps)
   pub same : without_hints steps ≡ book.steps
 

@@ -6,3 +6,4 @@ pub mod Good
 pub mod Origin
 pub mod Kept
 pub mod Calls
+pub mod Laws
