@@ -4,8 +4,6 @@ use Rattle.std.specs.declared.option.Option.{Option}
 use Rattle.wire_io.specs.Causes.{Rose}
 use Rattle.wire_io.specs.Told.{Gains, GainsFront}
 use Rattle.lrat_replay.specs.declared.line.Step.{Step}
-use Rattle.report_text.specs.declared.answer.Answer.{Answer}
-use Rattle.report_text.specs.declared.answer.Answer.TheVariants.{Found, Minimum, Undecided, Mapped, NoneMapped, MapUndecided, NoRails}
 use Rattle.journal_text.specs.declared.fault.JournalFault.{JournalFault}
 use Rattle.journal_text.specs.declared.fault.JournalFault.TheVariants.{Sink, NoMemory}
 use Rattle.journal_text.specs.declared.target.Close.{Close}
@@ -33,16 +31,6 @@ WasRefused NoMemory got got' faults faults' bytes = (got' ≡ got) × (faults' �
 abbrev pub IsAskable : Target → Type 0
 IsAskable (Whole s) = s.rows * s.cols ≤ 32768
 IsAskable (Marked a) = ⊤
-
--- an answer that is not `found` may stand in a journal
-abbrev pub MayStand : Answer → Type 0
-MayStand (Found g) = ⊥
-MayStand (Minimum g) = ⊤
-MayStand (Undecided g least at after) = ⊤
-MayStand (Mapped g a) = ⊤
-MayStand (NoneMapped a) = ⊤
-MayStand (MapUndecided a after) = ⊤
-MayStand (NoRails on off) = ⊤
 
 -- Behind the question's line stand the lines of steps of which this holds, and the closing line.
 pub record IsClosed (bytes origin : List ℕ) (close : Close) (Holds : List Step → Type 0) : Type 0 where

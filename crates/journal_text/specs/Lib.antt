@@ -5,5 +5,7 @@ pub mod Least
 pub mod Good
 pub mod Origin
 pub mod Kept
+pub mod Bounds
 pub mod Calls
 pub mod Laws
+pub mod Shown

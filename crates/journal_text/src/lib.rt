@@ -2,6 +2,7 @@
 #![tactic(auto)]
 
 ghost use Rattle.journal_text.specs.Laws.{BeginsJournal, AddsSection, AddsAnswer, EndsJournal};
+ghost use Rattle.journal_text.specs.Shown.{ExcludesBelow, ExcludesOnArray};
 
 pub mod fault;
 mod lines;
@@ -15,4 +16,10 @@ pub fn written_together()
     ensures section { AddsSection }
     ensures answer { AddsAnswer }
     ensures ends { EndsJournal }
+{}
+
+/// What refuted sections show of lattices.
+pub fn refuted_sections()
+    ensures below { ExcludesBelow }
+    ensures on_array { ExcludesOnArray }
 {}
