@@ -1,16 +1,17 @@
 -- What a section keeps, after each of its calls.
-use Rattle.std.proofs.Common.{◌≡◌, ◌⊎◌, inl, inr, ℕ, suc, ◌+◌, ◌-◌, ◌^◌, ◌<◌, ◌≤◌, min, Bool, true, false, not, ◌||◌, List, [], ◌∷◌, ◌++◌, length, map, ℤ, refl, sym, ap, ◌∙◌, subst, append_assoc, arith, length-append, None, Some}
+use Rattle.std.proofs.Common.{◌≡◌, ◌⊎◌, inl, inr, ℕ, suc, ◌+◌, ◌-◌, ◌^◌, ◌<◌, ◌≤◌, min, Bool, true, false, not, ◌||◌, List, [], ◌∷◌, ◌++◌, length, map, ℤ, nat_lt, refl, sym, ap, ◌∙◌, subst, append_assoc, arith, length-append, None, Some}
 use Rattle.std.specs.Prelude.{IfSome, All}
 use Rattle.std.specs.declared.option.Option.{Option}
 use Rattle.std.specs.FinSet as set
 use Rattle.std.specs.List.{Contains}
 use Rattle.std.specs.Ordering.{nat_cmp}
 use Rattle.std.proofs.lemmas.Bool.{or_cases, false≢true}
+use Rattle.std.proofs.lemmas.Bool.Decides.{nat_tests}
 use Rattle.std.proofs.lemmas.List.{append-nil}
-use Rattle.std.proofs.lemmas.List.Elements.{Contains-append_right, All-append, All-cons, All-nil}
+use Rattle.std.proofs.lemmas.List.Elements.{Contains-append_right, All-push, All-weaker}
 use Rattle.std.proofs.lemmas.List.Concat.{flat_map-append}
 use Rattle.clause_core.specs.Literal.{Literal}
-use Rattle.clause_core.specs.Formula.{Formula}
+use Rattle.clause_core.specs.Formula.{Formula, IsOver}
 use Rattle.wire_io.specs.Told.{Gains, GainsFront}
 use Rattle.lrat_replay.specs.Book.{Book, Numbered, Accepts, addition_fault, after_addition, after_lines, is_empty, last_id, last_of, some_empty, start}
 use Rattle.lrat_replay.specs.Laws.{Refutes}
@@ -21,7 +22,8 @@ use Rattle.lrat_replay.specs.New.{AreNew}
 use Rattle.lrat_replay.specs.declared.line.LineKind.{LineKind}
 use Rattle.lrat_replay.specs.declared.line.LineKind.TheVariants.{Add}
 use Rattle.lrat_replay.specs.declared.line.Step.{Step}
-use Rattle.lrat_replay.proofs.Sound.{Contains-head}
+use Rattle.lrat_replay.specs.StepRead.{IsCounted}
+use Rattle.lrat_replay.proofs.Sound.{Contains-head, addition-passed}
 use Rattle.lrat_replay.proofs.TallyLaws.{fits, added}
 use Rattle.report_text.specs.Pieces.{Without}
 use Rattle.report_text.specs.Report.{BlockParts, block_text}
@@ -29,7 +31,7 @@ use Rattle.report_text.specs.declared.answer.Version.TheVariants.{Two}
 use Rattle.report_text.proofs.PiecesLaws.{Without-append, Without-front}
 use Rattle.journal_text.specs.Parts.{Part, Question, Answered, Section}
 use Rattle.journal_text.specs.Text.{front_text, question_text, steps_text, close_text}
-use Rattle.journal_text.specs.Kept.{steps_in, capped, SpellsParts, SpellsQuestion, SpellsSection, AreOf, HasLines, LastInPart, IsSection, IsWriter}
+use Rattle.journal_text.specs.Kept.{steps_in, capped, SpellsParts, SpellsQuestion, SpellsSection, IsAddition, AreOf, HasLines, LastInPart, IsSection, IsWriter}
 use Rattle.journal_text.specs.Calls.{IsClosed}
 use Rattle.journal_text.specs.Origin.{origin_of}
 use Rattle.journal_text.specs.declared.target.Close.{Close}
@@ -72,15 +74,21 @@ led : (book : Book) (steps : List Step) → book.deleted ≡ set.empty → AreOf
 led book steps none h =
     after-steps book.formula set.empty [] steps ∙ (λ i. record { formula = book.formula; steps = h.same i; deleted = sym none i })
 
-positive-more : (steps : List Step) (id : ℕ) (clause : List Literal) (hints : List ℤ) → All IsAbove0 hints → All (λ (s : Step). All IsAbove0 s.hints) steps
-    → All (λ (s : Step). All IsAbove0 s.hints) (steps ++ record { id = id; clause = clause; hints = hints } ∷ [])
-positive-more steps id clause hints now h =
-    All-append (λ (s : Step). All IsAbove0 s.hints) steps (record { id = id; clause = clause; hints = hints } ∷ []) h (All-cons (λ (s : Step). All IsAbove0 s.hints) (record { id = id; clause = clause; hints = hints }) [] now (All-nil (λ (s : Step). All IsAbove0 s.hints)))
+-- an accepted step is an addition
+pub addition-of : (book : Book) (id : ℕ) (clause : List Literal) (hints : List ℤ) → addition_fault book id clause hints ≡ None → IsOver book.formula.vars clause × (book.formula.vars < 2 ^ 31) → All IsAbove0 hints
+    → IsAddition (record { id = id; clause = clause; hints = hints })
+addition-of book id clause hints accepted over positive = record {
+  id = (let order = id-bounds (last_id book) id (addition-passed book id clause hints accepted).order in (omega (arith, order.0), omega (arith, order.1)));
+  variables = All-weaker (λ (l : Literal). (1 ≤ l.var) × (l.var ≤ book.formula.vars)) (λ (l : Literal). IsCounted l.var) (λ l h. (h.0, (let few = over.1 in let most = h.1 in omega (arith, few, most)))) clause over.0;
+  hints = positive;
+} where
+  id-bounds : (a b : ℕ) → (not (nat_lt a b) || nat_lt 2147483647 b) ≡ false → (a < b) × (b ≤ 2147483647)
+  id-bounds a b h = (grind (arith, nat_tests), grind (arith, nat_tests))
 
-are-more : (book : Book) (steps : List Step) (id : ℕ) (clause : List Literal) (hints : List ℤ) → All IsAbove0 hints → book.deleted ≡ set.empty → addition_fault book id clause hints ≡ None → AreOf book steps
+are-more : (book : Book) (steps : List Step) (id : ℕ) (clause : List Literal) (hints : List ℤ) → IsAddition (record { id = id; clause = clause; hints = hints }) → book.deleted ≡ set.empty → addition_fault book id clause hints ≡ None → AreOf book steps
     → AreOf (after_addition book id clause) (steps ++ record { id = id; clause = clause; hints = hints } ∷ [])
-are-more book steps id clause hints positive none accepted h = record {
-  positive = positive-more steps id clause hints positive h.positive;
+are-more book steps id clause hints now none accepted h = record {
+  each = All-push IsAddition steps (record { id = id; clause = clause; hints = hints }) h.each now;
   accepted = accepts-more (start book.formula) steps (record { id = id; clause = clause; hints = hints }) h.accepted (ap (λ b. addition_fault b id clause hints) (led book steps none h) ∙ accepted);
   same = bare-more steps (record { id = id; clause = clause; hints = hints }) ∙ ap (λ z. z ++ record { id = id; clause = clause } ∷ []) h.same;
 }
@@ -126,13 +134,13 @@ last_of-push : (n : ℕ) (steps : List Numbered) (s : Numbered) → last_of n (s
 last_of-push n [] s = refl
 last_of-push n (x ∷ steps) s = last_of-push x.id steps s
 
-module _ (book : Book) (before learned id : ℕ) (clause : List Literal) (hints : List ℤ) (accepted : addition_fault book id clause hints ≡ None) (positive : All IsAbove0 hints) where
+module _ (book : Book) (before learned id : ℕ) (clause : List Literal) (hints : List ℤ) (accepted : addition_fault book id clause hints ≡ None) (now : IsAddition (record { id = id; clause = clause; hints = hints })) where
   spelled-more : (bytes : List ℕ) → book.deleted ≡ set.empty → SpellsSection bytes book false before → SpellsSection (bytes ++ step_text id clause hints) (after_addition book id clause) false before
   spelled-more bytes none h = record {
     start = h.start;
     question = h.question;
     steps = h.steps ++ record { id = id; clause = clause; hints = hints } ∷ [];
-    are = are-more book h.steps id clause hints positive none accepted h.are;
+    are = are-more book h.steps id clause hints now none accepted h.are;
     lines = ap (λ z. z ++ step_text id clause hints) h.lines ∙ append_assoc h.start (steps_text h.steps) (step_text id clause hints)
       ∙ ap (λ z. h.start ++ z) (sym (text-more h.steps (record { id = id; clause = clause; hints = hints })));
   }
@@ -142,7 +150,7 @@ module _ (book : Book) (before learned id : ℕ) (clause : List Literal) (hints 
     start = h.start;
     question = h.question;
     steps = h.steps ++ record { id = id; clause = clause; hints = hints } ∷ [];
-    are = are-more book h.steps id clause hints positive none accepted h.are;
+    are = are-more book h.steps id clause hints now none accepted h.are;
     lines = record {
       earlier = h.steps;
       last = record { id = id; clause = clause; hints = hints };

@@ -7,6 +7,7 @@ use Rattle.lrat_replay.specs.Book.{Book, Accepts, last_id, start}
 use Rattle.lrat_replay.specs.Learned.{without_hints}
 use Rattle.lrat_replay.specs.Ledger.{IsAbove0}
 use Rattle.lrat_replay.specs.LratText.{step_text}
+use Rattle.lrat_replay.specs.StepRead.{IsCounted}
 use Rattle.lrat_replay.specs.Store.{coded_book}
 use Rattle.lrat_replay.specs.declared.line.LineKind.TheVariants.{Add}
 use Rattle.lrat_replay.specs.declared.line.Step.{Step}
@@ -62,9 +63,15 @@ pub record SpellsQuestion (bytes : List ℕ) (steps : ℕ) : Type 0 where
   pub text : bytes ≡ front_text Two rails parts ++ question_text output target
   pub count : steps ≡ capped (steps_in parts)
 
--- Each step is accepted by its own hints, all above 0, after those before it; and without their hints they are the steps of the book.
+-- An addition: its identifier and its variables are from 1 to 2,147,483,647, and its hints above 0.
+pub record IsAddition (s : Step) : Type 0 where
+  pub id : IsCounted s.id
+  pub variables : All (λ l. IsCounted l.var) s.clause
+  pub hints : All IsAbove0 s.hints
+
+-- Each step is an addition, and accepted by its own hints after those before it; and without their hints they are the steps of the book.
 pub record AreOf (book : Book) (steps : List Step) : Type 0 where
-  pub positive : All (λ s. All IsAbove0 s.hints) steps
+  pub each : All IsAddition steps
   pub accepted : Accepts (start book.formula) (map Add steps)
   pub same : without_hints steps ≡ book.steps
 

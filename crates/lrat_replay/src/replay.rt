@@ -1,5 +1,5 @@
 //! Replay of steps, and what it shows of a formula.
-ghost use Rattle.std.specs.Prelude.{◌≡◌, ℕ, ◌+◌, ◌*◌, ◌<◌, ◌≤◌, Bool, true, false, OnOk, OnErr, IfOk, IfErr, None, Some, is_ok, IsOk, IsErr, IsTrue, ◌↔◌};
+ghost use Rattle.std.specs.Prelude.{◌≡◌, ℕ, ◌+◌, ◌*◌, ◌^◌, ◌<◌, ◌≤◌, Bool, true, false, OnOk, OnErr, IfOk, IfErr, None, Some, is_ok, IsOk, IsErr, IsTrue, ◌↔◌};
 ghost use Rattle.clause_core.specs.Literal.{clause_is_true};
 ghost use Rattle.clause_core.specs.Formula.{IsOver, Satisfies, HasNoSolution};
 ghost use Rattle.lrat_replay.specs.Marks.{room};
@@ -36,6 +36,7 @@ fn test(
     ensures refused { IfErr result (λ fault. addition_fault store.now id clause.now hints.now ≡ Some fault) }
     ensures above { OnOk result (last_id store.now < id) }
     ensures over { OnOk result (IsOver store.now.formula.vars clause.now) }
+    ensures few { OnOk result (store.now.formula.vars < 2 ^ 31) }
     ensures room { room marks.new ≡ room marks.old }
 {
     if id <= store.last_id() || id > MOST {
@@ -144,6 +145,7 @@ impl Replay {
     pub fn step(&mut self, id: u32, clause: &[Lit], hints: &[i32]) -> Result<(), StepFault>
         ensures accepted { OnOk result (addition_fault self.old id clause.now hints.now ≡ None) }
         ensures after { OnOk result (self.new ≡ after_addition self.old id clause.now) }
+        ensures over { OnOk result (IsOver self.old.formula.vars clause.now × (self.old.formula.vars < 2 ^ 31)) }
         ensures implied { OnOk result ((v : ℕ → Bool) → Satisfies v self.old.formula → clause_is_true v clause.now ≡ true) }
         ensures refused { IfErr result (IsFault (addition_fault self.old id clause.now hints.now)) }
         ensures kept { OnErr result (self.new ≡ self.old) }
