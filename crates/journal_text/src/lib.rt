@@ -8,6 +8,8 @@ pub mod fault;
 mod lines;
 pub mod section;
 pub mod target;
+#[cfg(test)]
+mod tests;
 pub mod writer;
 
 /// How what the calls write comes to the text of a journal.

@@ -30,6 +30,7 @@ use wire_io::fault::{Failed, Stopped};
 use wire_io::sink::Sink;
 
 /// A ledger that writes the line of each step as soon as replay accepts it.
+#[derive(Drop)]
 pub struct Section<K: Sink> {
     sink: K,
     replay: Replay,

@@ -27,6 +27,7 @@ use wire_io::fault::{Failed, Stopped};
 use wire_io::sink::Sink;
 
 /// A sink to which a journal is written.
+#[derive(Drop)]
 pub struct JournalWriter<K: Sink> {
     sink: K,
     steps: u64,
