@@ -31,9 +31,9 @@ fn may_stand(answer: &Answer) -> bool
 fn an_answer_alone(rt: HostRuntime) -> Result<(), Fail> {
     let alloc = rt.alloc();
     let text = b"output 0 f0 minimum 1x1\n0\nrefuted\n";
-    let (block, _) = read_block(alloc, text, 0, 1, Version::Two)
-        .ok()
-        .ok_or("the text spells a block")?;
+    let Ok((block, _)) = read_block(alloc, text, 0, 1, Version::Two) else {
+        return Err(Fail::from("the text spells a block"));
+    };
     assert!(rt; may_stand(&block.answer));
     let sink = FirmSink::new(alloc, 200, 5).ok().ok_or("memory")?;
     let mut writer = JournalWriter::begin(sink, Rails::all())
@@ -60,10 +60,9 @@ fn a_question_that_is_satisfied(rt: HostRuntime) -> Result<(), Fail> {
         .ok_or("the sink failed")?;
     let shape = Shape::new(1, 2).ok_or("a shape")?;
     assert!(rt; shape.area() <= 32_768);
-    let section = writer
-        .question(alloc, 63, &Target::Whole(shape), formula)
-        .ok()
-        .ok_or("the sink failed")?;
+    let Ok(section) = writer.question(alloc, 63, &Target::Whole(shape), formula) else {
+        return Err(Fail::from("the sink failed"));
+    };
     assert_eq!(rt; section.last_id(), 1);
     assert_eq!(rt; section.formula().vars(), 1);
     assert_eq!(rt; section.steps(), 0);
