@@ -1,5 +1,5 @@
 -- A question's line stays the last one that begins with `question` while lines of steps come behind it.
-use Rattle.std.proofs.Common.{◌≡◌, ◌≢◌, ◌⊎◌, inl, inr, ℕ, zero, suc, ◌+◌, ◌/◌, ◌%◌, ◌<◌, ◌≤◌, ◌==◌, Bool, true, false, cond, ◌&&◌, eqb, List, [], ◌∷◌, ◌++◌, map, take, drop, refl, sym, ap, ◌∙◌, subst, append_assoc, codes, arith, nat_lt, ℤ, pos, negsuc, Some}
+use Rattle.std.proofs.Common.{◌≡◌, ◌≢◌, ◌⊎◌, inl, inr, ℕ, zero, suc, ◌+◌, ◌/◌, ◌%◌, ◌<◌, ◌==◌, Bool, true, false, cond, ◌&&◌, List, [], ◌∷◌, ◌++◌, map, refl, sym, ap, ◌∙◌, subst, append_assoc, codes, arith, ℤ, pos, negsuc, Some}
 use Rattle.std.specs.List.{flat_map, AllByRecursion, join_with_byte}
 use Rattle.std.specs.Fmt.{decimal, signed_decimal, digits, digits_onto, digit_glyph}
 use Rattle.std.proofs.lemmas.Bool.{ne_eqb}
@@ -8,14 +8,13 @@ use Rattle.clause_core.specs.Literal.{Literal, signed}
 use Rattle.clause_core.specs.Cnf.{literals_text}
 use Rattle.lattice_grid.specs.declared.array.Defect.{Defect}
 use Rattle.lattice_grid.specs.declared.array.Defect.TheVariants.{Sound, StuckOpen, StuckClosed}
-use Rattle.lattice_grid.specs.Defects.{Defects}
 use Rattle.lattice_grid.specs.Rectangle.{Size}
 use Rattle.lrat_replay.specs.declared.line.Step.{Step}
 use Rattle.lrat_replay.specs.LratText.{hints_text, step_text}
 use Rattle.report_text.specs.Cells.{size_text, array_text, rows_of, defect_byte}
 use Rattle.report_text.specs.Pieces.{Without}
 use Rattle.report_text.proofs.JoinLaws.{Without-join}
-use Rattle.report_text.proofs.PiecesLaws.{Without-append, Without-front}
+use Rattle.report_text.proofs.PiecesLaws.{Without-append}
 use Rattle.report_text.specs.Report.{Line, BlockParts, words_text, text_of, block_text, block_lines}
 use Rattle.report_text.specs.declared.answer.Version.{Version}
 use Rattle.report_text.specs.declared.answer.Version.TheVariants.{One, Two}
@@ -23,7 +22,7 @@ use Rattle.journal_text.specs.declared.target.Close.{Close}
 use Rattle.journal_text.specs.declared.target.Close.TheVariants.{Refuted, Spent, Satisfied}
 use Rattle.journal_text.specs.declared.target.Target.{Target}
 use Rattle.journal_text.specs.declared.target.Target.TheVariants.{Whole, Marked}
-use Rattle.journal_text.specs.Parts.{Part, Question, Answered, Section}
+use Rattle.journal_text.specs.Parts.{Part, Question, Answered}
 use Rattle.journal_text.specs.Text.{head_text, target_text, question_text, steps_text, close_text, section_text, part_text, parts_text, front_text}
 use Rattle.journal_text.specs.Origin.{lines_after, whole_lines, begins_with, behind, up_to_question, origin_of}
 
@@ -115,7 +114,7 @@ origin-is front q rest (inr (before, is)) h begins k =
     let one = last_one q rest h begins k in
     let some : up_to_question (whole_lines (q ++ 10 ∷ rest)) ≢ [] = λ e. some-feed q (sym one ∙ e) in
     let parts : (front ++ (q ++ 10 ∷ [])) ++ rest ≡ before ++ 10 ∷ (q ++ 10 ∷ rest) =
-      append_assoc front (q ++ 10 ∷ []) rest ∙ ap (λ z. front ++ z) (append_assoc q (10 ∷ []) rest) ∙ ap (λ z. z ++ (q ++ 10 ∷ rest)) is ∙ append_assoc before (10 ∷ []) (q ++ 10 ∷ rest) in
+    append_assoc front (q ++ 10 ∷ []) rest ∙ ap (λ z. front ++ z) (append_assoc q (10 ∷ []) rest) ∙ ap (λ z. z ++ (q ++ 10 ∷ rest)) is ∙ append_assoc before (10 ∷ []) (q ++ 10 ∷ rest) in
     ap (λ z. up_to_question (whole_lines z)) parts ∙ ap up_to_question (lines-append [] before (q ++ 10 ∷ rest))
     ∙ up-append (whole_lines (before ++ 10 ∷ [])) (whole_lines (q ++ 10 ∷ rest)) some
     ∙ ap (λ z. z ++ up_to_question (whole_lines (q ++ 10 ∷ rest))) (flat-lines [] before ∙ sym is) ∙ ap (λ z. front ++ z) one
@@ -235,10 +234,12 @@ whole-block version block = whole-lines (block_lines version block)
 
 whole-step : (s : Step) → IsWhole (step_text s.id s.clause s.hints)
 whole-step s =
-    inr ((decimal s.id ++ 32 ∷ []) ++ (literals_text s.clause ++ (48 ∷ 32 ∷ (hints_text s.hints ++ 48 ∷ []))),
-    ap (λ z. (decimal s.id ++ 32 ∷ []) ++ (literals_text s.clause ++ (48 ∷ 32 ∷ z))) (sym (append_assoc (hints_text s.hints) (48 ∷ []) (10 ∷ [])))
-    ∙ ap (λ z. (decimal s.id ++ 32 ∷ []) ++ z) (sym (append_assoc (literals_text s.clause) (48 ∷ 32 ∷ (hints_text s.hints ++ 48 ∷ [])) (10 ∷ [])))
-    ∙ sym (append_assoc (decimal s.id ++ 32 ∷ []) (literals_text s.clause ++ (48 ∷ 32 ∷ (hints_text s.hints ++ 48 ∷ []))) (10 ∷ [])))
+    inr (
+      (decimal s.id ++ 32 ∷ []) ++ (literals_text s.clause ++ (48 ∷ 32 ∷ (hints_text s.hints ++ 48 ∷ []))),
+      ap (λ z. (decimal s.id ++ 32 ∷ []) ++ (literals_text s.clause ++ (48 ∷ 32 ∷ z))) (sym (append_assoc (hints_text s.hints) (48 ∷ []) (10 ∷ [])))
+          ∙ ap (λ z. (decimal s.id ++ 32 ∷ []) ++ z) (sym (append_assoc (literals_text s.clause) (48 ∷ 32 ∷ (hints_text s.hints ++ 48 ∷ [])) (10 ∷ [])))
+          ∙ sym (append_assoc (decimal s.id ++ 32 ∷ []) (literals_text s.clause ++ (48 ∷ 32 ∷ (hints_text s.hints ++ 48 ∷ []))) (10 ∷ [])),
+    )
 
 whole-steps : (steps : List Step) → IsWhole (steps_text steps)
 whole-steps [] = inl refl

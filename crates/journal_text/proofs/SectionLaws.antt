@@ -1,5 +1,5 @@
 -- What a section keeps, after each of its calls.
-use Rattle.std.proofs.Common.{◌≡◌, ◌⊎◌, inl, inr, ℕ, suc, ◌+◌, ◌-◌, ◌^◌, ◌<◌, ◌≤◌, min, Bool, true, false, not, ◌||◌, List, [], ◌∷◌, ◌++◌, length, map, ℤ, nat_lt, refl, sym, ap, ◌∙◌, subst, append_assoc, arith, length-append, None, Some}
+use Rattle.std.proofs.Common.{◌≡◌, ◌⊎◌, inl, inr, ℕ, suc, ◌+◌, ◌-◌, ◌^◌, ◌<◌, ◌≤◌, min, Bool, true, false, not, ◌||◌, List, [], ◌∷◌, ◌++◌, length, map, ℤ, nat_lt, refl, sym, ap, ◌∙◌, subst, append_assoc, arith, None, Some}
 use Rattle.std.specs.Prelude.{IfSome, All}
 use Rattle.std.specs.declared.option.Option.{Option}
 use Rattle.std.specs.FinSet as set
@@ -19,7 +19,6 @@ use Rattle.lrat_replay.specs.Learned.{without_hints, AreWrittenNew, SpentWritten
 use Rattle.lrat_replay.specs.Ledger.{IsAbove0}
 use Rattle.lrat_replay.specs.LratText.{step_text}
 use Rattle.lrat_replay.specs.New.{AreNew}
-use Rattle.lrat_replay.specs.declared.line.LineKind.{LineKind}
 use Rattle.lrat_replay.specs.declared.line.LineKind.TheVariants.{Add}
 use Rattle.lrat_replay.specs.declared.line.Step.{Step}
 use Rattle.lrat_replay.specs.StepRead.{IsCounted}
@@ -31,11 +30,11 @@ use Rattle.report_text.specs.declared.answer.Version.TheVariants.{Two}
 use Rattle.report_text.proofs.PiecesLaws.{Without-append, Without-front}
 use Rattle.journal_text.specs.Parts.{Part, Question, Answered, Section}
 use Rattle.journal_text.specs.Text.{front_text, question_text, steps_text, close_text}
-use Rattle.journal_text.specs.Kept.{steps_in, capped, SpellsParts, SpellsQuestion, SpellsSection, IsAddition, AreOf, HasLines, LastInPart, IsSection, IsWriter}
+use Rattle.journal_text.specs.Kept.{steps_in, capped, SpellsParts, SpellsQuestion, SpellsSection, IsAddition, AreOf, IsSection, IsWriter}
 use Rattle.journal_text.specs.Calls.{IsClosed}
 use Rattle.journal_text.specs.Origin.{origin_of}
 use Rattle.journal_text.specs.declared.target.Close.{Close}
-use Rattle.journal_text.proofs.TextLaws.{front-section, front-more, front-none}
+use Rattle.journal_text.proofs.TextLaws.{front-section, front-more}
 use Rattle.journal_text.proofs.OriginLaws.{whole-front, question_origin, Without-steps, Without-step}
 
 -- ---- what a sink tells
@@ -142,7 +141,7 @@ module _ (book : Book) (before learned id : ℕ) (clause : List Literal) (hints 
     steps = h.steps ++ record { id = id; clause = clause; hints = hints } ∷ [];
     are = are-more book h.steps id clause hints now none accepted h.are;
     lines = ap (λ z. z ++ step_text id clause hints) h.lines ∙ append_assoc h.start (steps_text h.steps) (step_text id clause hints)
-      ∙ ap (λ z. h.start ++ z) (sym (text-more h.steps (record { id = id; clause = clause; hints = hints })));
+        ∙ ap (λ z. h.start ++ z) (sym (text-more h.steps (record { id = id; clause = clause; hints = hints })));
   }
 
   spelled-cut : (bytes front rest : List ℕ) → step_text id clause hints ≡ front ++ rest → book.deleted ≡ set.empty → SpellsSection bytes book false before → SpellsSection (bytes ++ front) (after_addition book id clause) true before
@@ -179,7 +178,7 @@ module _ (book : Book) (before learned id : ℕ) (clause : List Literal) (hints 
         few = (counts h.count h.few).1;
         whole = h.whole;
         spelled = gained (λ bytes. SpellsSection bytes book false before) (λ bytes. SpellsSection bytes (after_addition book id clause) false before) a b (step_text id clause hints) g
-          (subst (λ (w : Bool). IfSome a (λ bytes. SpellsSection bytes book w before)) whole h.spelled) (λ x k. spelled-more x h.whole k);
+            (subst (λ (w : Bool). IfSome a (λ bytes. SpellsSection bytes book w before)) whole h.spelled) (λ x k. spelled-more x h.whole k);
       }))
 
   pub learned_cut : (a b : Option (List ℕ)) (new : Book) (broken : Bool) → new ≡ after_addition book id clause → broken ≡ false → IsSection a book broken before learned → GainsFront a b (step_text id clause hints)
@@ -191,7 +190,7 @@ module _ (book : Book) (before learned id : ℕ) (clause : List Literal) (hints 
         few = (counts h.count h.few).1;
         whole = h.whole;
         spelled = gained (λ bytes. SpellsSection bytes book false before) (λ bytes. SpellsSection bytes (after_addition book id clause) true before) a b g.front g.gained
-          (subst (λ (w : Bool). IfSome a (λ bytes. SpellsSection bytes book w before)) whole h.spelled) (λ x k. spelled-cut x g.front g.rest g.whole h.whole k);
+            (subst (λ (w : Bool). IfSome a (λ bytes. SpellsSection bytes book w before)) whole h.spelled) (λ x k. spelled-cut x g.front g.rest g.whole h.whole k);
       })
 
 -- ---- a section is closed
@@ -208,8 +207,8 @@ pub capped-more : (parts : List Part) (s : Section) (before learned : ℕ) → b
 capped-more parts s before learned e f =
     (λ i. capped (e i + f i)) ∙ add_capped (steps_in parts) (length s.steps) (2 ^ 64 - 1)
     ∙ ap capped (sym (steps_in-append parts (Question s ∷ []) ∙ ap (λ n. steps_in parts + n) (plus_zero (length s.steps)))) where
-  plus_zero : (n : ℕ) → n + 0 ≡ n
-  plus_zero n = omega arith
+      plus_zero : (n : ℕ) → n + 0 ≡ n
+      plus_zero n = omega arith
 
 closed-parts : (bytes : List ℕ) (book : Book) (before learned : ℕ) (close : Close) → learned ≡ length book.steps → SpellsSection bytes book false before → SpellsParts (bytes ++ close_text close) (capped (before + learned))
 closed-parts bytes book before learned close count h =
@@ -219,7 +218,7 @@ closed-parts bytes book before learned close count h =
       rails = q.rails;
       parts = q.parts ++ Question s ∷ [];
       text = front-section Two q.rails q.parts s (bytes ++ close_text close)
-        (ap (λ z. z ++ close_text close) h.lines ∙ append_assoc h.start (steps_text h.steps) (close_text close) ∙ ap (λ z. z ++ (steps_text h.steps ++ close_text close)) q.text);
+          (ap (λ z. z ++ close_text close) h.lines ∙ append_assoc h.start (steps_text h.steps) (close_text close) ∙ ap (λ z. z ++ (steps_text h.steps ++ close_text close)) q.text);
       count = capped-more q.parts s before learned q.count (count ∙ ap length (sym h.are.same) ∙ bare-many h.steps);
     }
 

@@ -1,8 +1,6 @@
 -- What refuted sections show of lattices.
-use Rattle.std.proofs.Common.{◌≡◌, ℕ, ◌*◌, ◌≤◌, List, map, refl, sym, ap, ◌∙◌, subst, arith, None, Some}
-use Rattle.std.specs.Prelude.{All}
+use Rattle.std.proofs.Common.{◌≡◌, ℕ, ◌*◌, ◌≤◌, List, map, refl, sym, ap, subst, arith, None, Some}
 use Rattle.std.proofs.lemmas.List.Elements.{All-contains}
-use Rattle.cube_core.specs.Function.{Function, IsFunction}
 use Rattle.clause_core.specs.Formula.{Formula}
 use Rattle.lattice_grid.specs.Defects.{Defects, IsArray}
 use Rattle.lattice_grid.specs.Rectangle.{Size, IsSize}

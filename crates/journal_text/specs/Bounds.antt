@@ -1,5 +1,5 @@
 -- What a journal may say.
-use Rattle.std.specs.Prelude.{ℕ, ◌*◌, ◌≤◌, All, ⊤}
+use Rattle.std.specs.Prelude.{◌*◌, ◌≤◌, All, ⊤}
 use Rattle.lattice_grid.specs.Defects.{IsArray}
 use Rattle.lattice_grid.specs.Rectangle.{IsSize}
 use Rattle.lrat_replay.specs.Ledger.{IsAbove0}

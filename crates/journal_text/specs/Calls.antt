@@ -1,5 +1,5 @@
 -- What the calls of a writer and of a section say.
-use Rattle.std.specs.Prelude.{◌≡◌, ℕ, ◌*◌, ◌≤◌, List, ◌++◌, ⊤, map}
+use Rattle.std.specs.Prelude.{◌≡◌, ℕ, ◌*◌, ◌≤◌, List, ◌++◌, ⊤}
 use Rattle.std.specs.declared.option.Option.{Option}
 use Rattle.wire_io.specs.Causes.{Rose}
 use Rattle.wire_io.specs.Told.{Gains, GainsFront}

@@ -1,5 +1,5 @@
 -- What a writer and a section keep, and how the bytes that the sink got spell it.
-use Rattle.std.specs.Prelude.{◌≡◌, ℕ, ◌-◌, ◌+◌, ◌^◌, ◌≤◌, min, Bool, true, false, List, [], ◌∷◌, ◌++◌, ⊤, length, map, All, None, Some, IfSome, refl}
+use Rattle.std.specs.Prelude.{◌≡◌, ℕ, ◌-◌, ◌+◌, ◌^◌, ◌≤◌, min, Bool, true, false, List, [], ◌∷◌, ◌++◌, ⊤, length, map, All, IfSome, refl}
 use Rattle.std.specs.declared.option.Option.{Option}
 use Rattle.std.specs.Coded.{Coded, code_by, coded×, coded_ℕ, coded_bool}
 use Rattle.std.specs.FinSet as set

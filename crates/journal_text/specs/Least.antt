@@ -7,7 +7,7 @@ use Rattle.lattice_grid.specs.Rails.{IsFull, IsOverRails}
 use Rattle.lattice_grid.specs.Realise.{Realises}
 use Rattle.lattice_grid.specs.Start.{pairs_over}
 use Rattle.lattice_grid.specs.declared.start.Start.{Start}
-use Rattle.lattice_grid.specs.declared.start.Start.TheVariants.{Grid, Lacking}
+use Rattle.lattice_grid.specs.declared.start.Start.TheVariants.{Grid}
 use Rattle.dual_product.specs.Dual.{dual_of}
 use Rattle.path_meaning.specs.Defective.{RealisesIn}
 

@@ -1,6 +1,5 @@
 -- What a section shows, by the hints that stand in it.
-use Rattle.std.specs.Prelude.{◌≡◌, ℕ, List, [], ◌∷◌, map, None, Some}
-use Rattle.std.specs.declared.option.Option.{Option}
+use Rattle.std.specs.Prelude.{◌≡◌, ℕ, List, map, None, Some}
 use Rattle.std.specs.List.{Contains}
 use Rattle.clause_core.specs.Formula.{Formula}
 use Rattle.cube_core.specs.Function.{Function}
@@ -11,7 +10,7 @@ use Rattle.lrat_replay.specs.Laws.{Refutes}
 use Rattle.lrat_replay.specs.Learned.{SpentWritten, without_hints}
 use Rattle.lrat_replay.specs.New.{IsOpen}
 use Rattle.reach_encoding.specs.Encoding.{encoding}
-use Rattle.journal_text.specs.declared.target.Close.TheVariants.{Refuted, Spent, Satisfied}
+use Rattle.journal_text.specs.declared.target.Close.TheVariants.{Refuted, Spent}
 use Rattle.journal_text.specs.Parts.{Section, Part, Question, size_of, array_of}
 
 -- the formula that a section asks, of a function and over rails

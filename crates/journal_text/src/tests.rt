@@ -88,7 +88,12 @@ fn a_question_of_an_array(rt: HostRuntime) -> Result<(), Fail> {
         .ok()
         .ok_or("the sink failed")?;
     let shape = Shape::new(2, 2).ok_or("a shape")?;
-    let defects = vec![in alloc; Defect::Sound, Defect::Sound, Defect::StuckClosed, Defect::StuckOpen]?;
+    let defects = vec![in alloc;
+        Defect::Sound,
+        Defect::Sound,
+        Defect::StuckClosed,
+        Defect::StuckOpen,
+    ]?;
     let array = Array::new(shape, defects).ok_or("an array")?;
     let section = writer
         .question(alloc, 0, &Target::Marked(array), formula)
@@ -107,9 +112,7 @@ fn a_sink_that_fails(rt: HostRuntime) -> Result<(), Fail> {
     let alloc = rt.alloc();
     let formula = read_cnf(alloc, b"p cnf 1 1\n1 0\n")?;
     let fails = vec![in alloc; 7]?;
-    let sink = MemorySink::new(alloc, 200, 10, fails)
-        .ok()
-        .ok_or("memory")?;
+    let sink = MemorySink::new(alloc, 200, 10, fails).ok().ok_or("memory")?;
     let writer = JournalWriter::begin(sink, Rails::all())
         .ok()
         .ok_or("the sink failed")?;

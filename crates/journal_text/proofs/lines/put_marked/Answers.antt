@@ -1,4 +1,4 @@
-use Rattle.std.proofs.Common.{◌≡◌, Err, refl, ap, ◌∷◌, [], ◌++◌}
+use Rattle.std.proofs.Common.{Err, refl, ap, ◌∷◌, [], ◌++◌}
 use Rattle.report_text.specs.Cells.{size_text, array_text}
 use Rattle.report_text.proofs.PutLaws.{puts_then, puts_stop, puts_as}
 use Rattle.journal_text.proofs.lines.put_marked.Goals as goal

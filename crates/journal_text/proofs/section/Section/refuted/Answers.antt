@@ -1,4 +1,4 @@
-use Rattle.std.proofs.Common.{◌≡◌, List, ℕ, sym, ap, ◌∙◌, subst, map}
+use Rattle.std.proofs.Common.{List, map}
 use Rattle.lrat_replay.specs.Laws.{Refutes}
 use Rattle.lrat_replay.specs.declared.line.LineKind.TheVariants.{Add}
 use Rattle.lrat_replay.specs.declared.line.Step.{Step}

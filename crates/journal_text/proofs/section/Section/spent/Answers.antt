@@ -1,4 +1,4 @@
-use Rattle.std.proofs.Common.{◌≡◌, List, ℕ}
+use Rattle.std.proofs.Common.{List}
 use Rattle.lrat_replay.specs.Learned.{SpentWritten}
 use Rattle.lrat_replay.specs.declared.line.Step.{Step}
 use Rattle.journal_text.specs.Kept.{AreOf}

@@ -1,8 +1,5 @@
-use Rattle.std.proofs.Common.{◌≡◌, ◌⊎◌, List, [], ℕ, Bool, false, length, sym, ap, ◌∙◌, subst, None, arith, Some}
+use Rattle.std.proofs.Common.{◌≡◌, ◌⊎◌, [], Bool, false, ap, ◌∙◌, subst, arith}
 use Rattle.std.specs.Prelude.{IfSome}
-use Rattle.std.specs.declared.option.Option.{Option}
-use Rattle.lrat_replay.specs.Book.{addition_fault, after_addition}
-use Rattle.lrat_replay.specs.LratText.{step_text}
 use Rattle.lrat_replay.proofs.ReplayLaws.{ok_part}
 use Rattle.journal_text.specs.Kept.{SpellsSection, Learning}
 use Rattle.journal_text.specs.Origin.{origin_of}
