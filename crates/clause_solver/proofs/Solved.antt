@@ -1,19 +1,21 @@
 -- What the endings of a search come to.
-use Rattle.std.proofs.Common.{◌≡◌, ℕ, ◌+◌, ◌-◌, Bool, true, false, not, cond, List, [], ◌∷◌, length, inl, inr, refl, sym, ap, ◌∙◌, subst, arith, Some}
+use Rattle.std.proofs.Common.{◌≡◌, ℕ, ◌+◌, ◌-◌, ◌^◌, ◌<◌, Bool, true, false, not, cond, List, [], ◌∷◌, ◌++◌, length, inl, inr, refl, sym, ap, ◌∙◌, subst, arith, Some}
 use Rattle.std.specs.Prelude.{slice_get}
 use Rattle.std.specs.List.{Contains}
 use Rattle.std.proofs.lemmas.Bool.{both_ways, false_from_ne_true}
 use Rattle.std.proofs.lemmas.List.Elements.{Contains-append_left, Contains-append_right}
 use Rattle.clause_core.specs.Literal.{Literal, flip, has, is_true}
-use Rattle.clause_core.specs.Formula.{IsOver, IsSatisfiedBy, value_in}
+use Rattle.clause_core.specs.Formula.{IsOver, HasNoSolution, IsSatisfiedBy, value_in}
 use Rattle.clause_core.proofs.Literals.{clause_is_true-has}
 use Rattle.lrat_replay.specs.Status.{Known, Rests, IsSatisfied}
-use Rattle.lrat_replay.specs.Book.{Book, Numbered, numbered, start}
-use Rattle.lrat_replay.specs.New.{IsOpen, IsUndecided, AllTellPropagation}
+use Rattle.lrat_replay.specs.Book.{Book, Numbered, numbered, all_of, start}
+use Rattle.lrat_replay.specs.New.{IsOpen, IsUndecided, AreAccepted, AllTellPropagation}
 use Rattle.lrat_replay.proofs.Sound.{Contains-cases}
 use Rattle.lrat_replay.proofs.Runs.{IsConsistent}
-use Rattle.lrat_replay.proofs.LearnedLaws.{formula-after_steps, steps-after_steps, deleted-after_steps}
+use Rattle.lrat_replay.proofs.LearnedLaws.{formula-after_steps, steps-after_steps, deleted-after_steps, AreAccepted-append, end_sound}
+use Rattle.lrat_replay.proofs.BudgetLaws.{fewer_than_sets}
 use Rattle.clause_solver.specs.Trail.{known_by, AreFresh, AreValued, IsVariableOf, HasValues}
+use Rattle.lrat_replay.specs.Learned.{EndsEmpty}
 use Rattle.clause_solver.specs.Copy.{IsCopy}
 use Rattle.clause_solver.specs.Search.{IsReady, Moment, Goes, HasModel, LearnsNew, LearnsUpTo}
 use Rattle.clause_solver.specs.Solver.{KeepsOpen}
@@ -36,12 +38,11 @@ module _ (book : Book) (count : ℕ) (a : LearnsNew (start book.formula) book co
     undecided = subst IsUndecided (λ i. record { formula = book.formula; steps = book.steps; deleted = (ap (λ (b : Book). b.deleted) a.grown ∙ deleted-after_steps (start book.formula) a.learned) i }) u;
   }
 
+whole_history : (old : Book) (count : ℕ) → LearnsNew (start old.formula) old count → (new : Book) (more : ℕ) → LearnsNew old new more → LearnsNew (start new.formula) new (count + more)
+whole_history old count a new more b = subst (λ f. LearnsNew (start f) new (count + more)) (sym (formula-learned old new more b)) (learns_more (start old.formula) old new count more (count + more) a b refl)
+
 pub keeps_open : (old : Book) (count : ℕ) → LearnsNew (start old.formula) old count → (now : Moment) (more : ℕ) → LearnsNew old now.book more → IsReady now.book now.broken now.clauses now.track now.width → KeepsOpen now
-keeps_open old count a now more b ready = record {
-  ready = ready;
-  count = count + more;
-  history = subst (λ f. LearnsNew (start f) now.book (count + more)) (sym (formula-learned old now.book more b)) (learns_more (start old.formula) old now.book count more (count + more) a b refl);
-}
+keeps_open old count a now more b ready = record { ready = ready; count = count + more; history = whole_history old count a now.book more b }
 
 -- a clause of the formula is one of the clauses
 record Placed (clauses : List (List Literal)) (clause : List Literal) : Type 0 where
@@ -97,3 +98,24 @@ formula-up_to old new budget a = ap (λ (b : Book). b.formula) a.learns.grown �
 
 pub deleted-up_to : (old new : Book) (budget : ℕ) → LearnsUpTo old new budget → new.deleted ≡ old.deleted
 deleted-up_to old new budget a = ap (λ (b : Book). b.deleted) a.learns.grown ∙ deleted-after_steps old a.learned
+
+-- the formula has no solution
+pub refuted_no_solution : (old new : Book) (count budget : ℕ) → LearnsNew (start old.formula) old count → LearnsUpTo old new budget → EndsEmpty new.steps → HasNoSolution new.formula
+refuted_no_solution old new count budget a b ends =
+    let f = formula-up_to old new budget b in
+    let all : new.steps ≡ a.learned ++ b.learned = ap (λ (k : Book). k.steps) b.learns.grown ∙ steps-after_steps old b.learned ∙ ap (λ s. s ++ b.learned) (steps_are old count a) in
+    let accepted = AreAccepted-append (start old.formula) a.learned b.learned a.accepted (subst (λ k. AreAccepted k b.learned) a.grown b.learns.accepted) in
+    subst HasNoSolution (sym f) (end_sound old.formula (a.learned ++ b.learned) accepted (subst EndsEmpty all ends))
+
+-- a budget that suffices is not spent
+pub spent_below : (old : Book) (count : ℕ) → LearnsNew (start old.formula) old count → (now : Moment) (budget : ℕ) → LearnsNew old now.book budget → IsReady now.book now.broken now.clauses now.track now.width → budget < 3 ^ now.book.formula.vars
+spent_below old count a now budget b ready =
+    let history = whole_history old count a now.book budget b in
+    let steps = steps_are now.book (count + budget) history in
+    let over = λ (s : Numbered) (m : Contains history.learned s).
+    let inside : Contains (all_of now.book) s = Contains-append_right (numbered 1 now.book.formula.clauses) now.book.steps s (subst (λ ss. Contains ss s) (sym steps) m) in
+    let k = numbered-at 1 now.clauses s (subst (λ ss. Contains ss s) ready.copy.same inside) in
+    subst (λ n. IsOver n s.clause) ready.vars (all_over now.track.vars now.clauses k.0 s.clause ready.over k.1) in
+    let few = fewer_than_sets now.book.formula history.learned history.accepted history.are_new over in
+    let m = history.many in
+    omega arith

@@ -2,6 +2,7 @@
 use Rattle.std.specs.Prelude.{◌≡◌, ℕ, false, Ok, Err}
 use Rattle.std.specs.declared.result.Result.{Result}
 use Rattle.lrat_replay.specs.Book.{start}
+use Rattle.clause_core.specs.Formula.{HasNoSolution}
 use Rattle.lrat_replay.specs.Learned.{EndsEmpty}
 use Rattle.clause_solver.specs.declared.verdict.Verdict.{Verdict}
 use Rattle.clause_solver.specs.declared.verdict.Verdict.TheVariants as verdicts
@@ -46,6 +47,7 @@ pub record KeepsModel (now : Moment) : Type 0 where
 pub record KeepsRefuted (now : Moment) : Type 0 where
   pub whole : now.broken ≡ false
   pub ends : EndsEmpty now.book.steps
+  pub no_solution : HasNoSolution now.book.formula
 
 -- what a solver keeps, by where it stands
 abbrev pub IsKept : Stage → Moment → Type 0

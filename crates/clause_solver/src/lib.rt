@@ -1,15 +1,17 @@
 //! Search for a valuation, with each learned clause as a step of a ledger.
 #![tactic(auto)]
 
-pub mod analyse;
-pub mod conflict;
-pub mod decide;
-pub mod learn;
-pub mod level;
-pub mod model;
-pub mod propagate;
-pub mod search;
+mod analyse;
+mod conflict;
+mod decide;
+mod learn;
+mod level;
+mod model;
+mod propagate;
+mod search;
 pub mod solver;
-pub mod trail;
-pub mod value;
+#[cfg(test)]
+mod tests;
+mod trail;
+mod value;
 pub mod verdict;

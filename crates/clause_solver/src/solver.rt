@@ -1,8 +1,8 @@
 //! The solver.
-ghost use Rattle.std.specs.Prelude.{◌≡◌, ◌⊎◌, ◌↔◌, ℕ, ◌+◌, ◌*◌, ◌<◌, ◌≤◌, Bool, false, List, [], IfOk, IfErr, OnOk, All, length, Ok, Err};
+ghost use Rattle.std.specs.Prelude.{◌≡◌, ◌⊎◌, ◌↔◌, ℕ, ◌+◌, ◌*◌, ◌^◌, ◌<◌, ◌≤◌, Bool, false, List, [], IfOk, IfErr, OnOk, All, length, Ok, Err};
 ghost use Rattle.std.specs.FinSet as set;
 ghost use Rattle.wire_io.specs.Causes.{Rose};
-ghost use Rattle.clause_core.specs.Formula.{IsSatisfiedBy, IsOver};
+ghost use Rattle.clause_core.specs.Formula.{IsSatisfiedBy, IsOver, HasNoSolution};
 ghost use Rattle.lrat_replay.specs.Marks.{room};
 ghost use Rattle.lrat_replay.specs.Book.{last_id};
 ghost use Rattle.lrat_replay.specs.Learned.{EndsEmpty};
@@ -66,6 +66,7 @@ fn answer<L: Ledger>(
     ensures satisfied { (values : List Bool) → result ≡ Ok (Verdict.Satisfied values) → IsSatisfiedBy values (L.book ledger.new).formula }
     ensures spent { result ≡ Ok Verdict.Spent → LearnsNew (L.book ledger.old) (L.book ledger.new) budget }
     ensures open { result ≡ Ok Verdict.Spent → IsOpen (L.book ledger.new).formula (L.book ledger.new).steps }
+    ensures sufficient { result ≡ Ok Verdict.Spent → budget < 3 ^ (L.book ledger.new).formula.vars }
     ensures ledger { result ≡ Err SolveFault.Ledger → Rose (L.faults ledger.old) (L.faults ledger.new) }
     ensures not_over { result ≡ Err SolveFault.Over → ⊥ }
 {
@@ -104,8 +105,10 @@ fn resume<L: Ledger>(
     // What each answer means.
     ensures satisfied { (values : List Bool) → result ≡ Ok (Verdict.Satisfied values) → IsSatisfiedBy values (L.book ledger.new).formula }
     ensures refuted { result ≡ Ok Verdict.Refuted → EndsEmpty (L.book ledger.new).steps }
+    ensures no_solution { result ≡ Ok Verdict.Refuted → HasNoSolution (L.book ledger.new).formula }
     ensures spent { result ≡ Ok Verdict.Spent → LearnsNew (L.book ledger.old) (L.book ledger.new) budget }
     ensures open { result ≡ Ok Verdict.Spent → IsOpen (L.book ledger.new).formula (L.book ledger.new).steps }
+    ensures sufficient { result ≡ Ok Verdict.Spent → budget < 3 ^ (L.book ledger.new).formula.vars }
     ensures ledger { result ≡ Err SolveFault.Ledger → Rose (L.faults ledger.old) (L.faults ledger.new) }
     ensures over { (result ≡ Err SolveFault.Over) ↔ (stage ≡ Stage.Failed) }
 
@@ -138,6 +141,7 @@ fn stage_of(answer: &Result<Verdict, SolveFault>) -> Stage
 }
 
 /// A search for a valuation of a ledger's formula, with each learned clause as a step of the ledger.
+#[derive(Drop)]
 pub struct Solver<L: Ledger> {
     ledger: L,
     alloc: Global,
@@ -197,8 +201,10 @@ impl<L: Ledger> Solver<L> {
         // What each answer means.
         ensures satisfied { (values : List Bool) → result ≡ Ok (Verdict.Satisfied values) → IsSatisfiedBy values (L.book self.new.ledger).formula }
         ensures refuted { result ≡ Ok Verdict.Refuted → EndsEmpty (L.book self.new.ledger).steps }
+        ensures no_solution { result ≡ Ok Verdict.Refuted → HasNoSolution (L.book self.new.ledger).formula }
         ensures spent { result ≡ Ok Verdict.Spent → LearnsNew (L.book self.old.ledger) (L.book self.new.ledger) budget }
         ensures open { result ≡ Ok Verdict.Spent → IsOpen (L.book self.new.ledger).formula (L.book self.new.ledger).steps }
+        ensures sufficient { result ≡ Ok Verdict.Spent → budget < 3 ^ (L.book self.new.ledger).formula.vars }
         ensures ledger { result ≡ Err SolveFault.Ledger → Rose (L.faults self.old.ledger) (L.faults self.new.ledger) }
         ensures over { (result ≡ Err SolveFault.Over) ↔ (self.old.stage ≡ Stage.Failed) }
 

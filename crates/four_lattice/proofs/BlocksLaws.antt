@@ -7,8 +7,15 @@ use Rattle.lattice_grid.specs.Lattice.{Lattice}
 use Rattle.pla_reader.specs.declared.name.Name.{Name}
 use Rattle.pla_reader.specs.Names.{bytes_of}
 use Rattle.report_text.specs.declared.answer.Answer.TheVariants.{Found}
+use Rattle.report_text.specs.declared.answer.Proof.{Proof}
 use Rattle.report_text.specs.declared.answer.Version.TheVariants.{Two}
 use Rattle.report_text.specs.Report.{ReportParts, block_text, blocks_text, head_text, report_text}
+use Rattle.std.specs.Prelude.{All}
+use Rattle.std.proofs.lemmas.List.Elements.{All-nil, All-cons}
+use Rattle.pla_reader.specs.Name.{IsName}
+use Rattle.pla_reader.specs.Parts.{parts_of, IsPla}
+use Rattle.pla_reader.specs.declared.pla.Pla.{Pla}
+use Rattle.report_text.specs.Bounds.{AreNames}
 use Rattle.wire_io.specs.Told.{Gains, GainsFront}
 use Rattle.wire_io.specs.Laws.{Gains-append, GainsFront-append, GainsFront-more}
 use Rattle.four_lattice.specs.Lattices.{made_by, blocks_by, chosen}
@@ -18,11 +25,11 @@ use Rattle.four_lattice.specs.declared.lattices.Construction.{Construction}
 abbrev pub blocks_after : Construction → ℕ → ℕ → List Name → List Function → List ℕ
 blocks_after how first i names specs = blocks_text Two (blocks_by how (first + i) (map bytes_of (drop i names)) (drop i specs))
 
-pub blocks_after-next : (how : Construction) (first : ℕ) (names : List Name) (specs : List Function) (i : ℕ) (name copy : Name) (f : Function) (grid : Lattice)
+pub blocks_after-next : (how : Construction) (first : ℕ) (names : List Name) (specs : List Function) (i : ℕ) (name copy : Name) (f : Function) (grid : Lattice) (proofs : List Proof)
     → i < length names → i < length specs
-    → name ≡ get_or names i name → bytes_of copy ≡ bytes_of name → f ≡ get_or specs i f → grid ≡ made_by how f
-    → blocks_after how first i names specs ≡ block_text Two (record { output = first + i; name = bytes_of copy; answer = Found grid; proofs = [] }) ++ blocks_after how first (i + 1) names specs
-blocks_after-next how first names specs i name copy f grid p q name_is same f_is made =
+    → name ≡ get_or names i name → bytes_of copy ≡ bytes_of name → f ≡ get_or specs i f → grid ≡ made_by how f → proofs ≡ []
+    → blocks_after how first i names specs ≡ block_text Two (record { output = first + i; name = bytes_of copy; answer = Found grid; proofs = proofs }) ++ blocks_after how first (i + 1) names specs
+blocks_after-next how first names specs i name copy f grid proofs p q name_is same f_is made none =
     let k = first + i in
     let next : suc (first + i) ≡ first + (i + 1) = omega arith in
     ap (λ ns. blocks_text Two (blocks_by how k (map bytes_of ns) (drop i specs))) (drop-cons names i name p)
@@ -33,6 +40,7 @@ blocks_after-next how first names specs i name copy f grid p q name_is same f_is
     ∙ ap (λ g. block_text Two (record { output = k; name = bytes_of copy; answer = Found g; proofs = [] }) ++ blocks_text Two (blocks_by how (suc k) (map bytes_of (drop (suc i) names)) (drop (suc i) specs))) (sym made)
     ∙ ap (λ n. block_text Two (record { output = k; name = bytes_of copy; answer = Found grid; proofs = [] }) ++ blocks_text Two (blocks_by how n (map bytes_of (drop (suc i) names)) (drop (suc i) specs))) next
     ∙ ap (λ n. block_text Two (record { output = k; name = bytes_of copy; answer = Found grid; proofs = [] }) ++ blocks_text Two (blocks_by how (first + (i + 1)) (map bytes_of (drop n names)) (drop n specs))) (sym (add-one i))
+    ∙ ap (λ ps. block_text Two (record { output = k; name = bytes_of copy; answer = Found grid; proofs = ps }) ++ blocks_after how first (i + 1) names specs) (sym none)
 
 -- the blocks from output k on are those of the names and functions from there on
 drop-blocks : (how : Construction) (i k : ℕ) (names : List (List ℕ)) (specs : List Function) → length names ≡ length specs → drop k (blocks_by how i names specs) ≡ blocks_by how (i + k) (drop k names) (drop k specs)
@@ -87,3 +95,15 @@ chosen-slices how output k names keys specs items is names_are specs_are same =
     ∙ ap (λ fs. blocks_text Two (blocks_by how k (map bytes_of (take 1 (drop k keys))) (take 1 (drop k fs)))) specs_are
     ∙ ap (blocks_text Two) (sym (chosen-one how k keys items (sym (length-map keys bytes_of) ∙ same)))
     ∙ ap (λ o. blocks_text Two (chosen o (blocks_by how 0 (map bytes_of keys) items))) (sym is)
+
+-- the names of a PLA's inputs are those of a report
+names_are : (names : List Name) → All IsName (map bytes_of names)
+names_are [] = All-nil IsName
+names_are (name ∷ names) = All-cons IsName (bytes_of name) (map bytes_of names) name.named (names_are names)
+
+pub input_names_are : (pla : Pla) → IsPla (parts_of pla) → AreNames (map bytes_of pla.input_names.keys)
+input_names_are pla h =
+    let many = h.input_names in
+    let some = h.some_inputs in
+    let few = h.few_inputs in
+    record { some = omega (arith, many, some); few = omega (arith, many, few); each = names_are pla.input_names.keys }

@@ -1,5 +1,5 @@
 -- Blocks that are tested one after the other; a report verifies or has one refusal.
-use Rattle.std.proofs.Common.{◌≡◌, ◌≢◌, ℕ, suc, ◌+◌, ◌*◌, ◌<◌, ◌≤◌, ◌⊎◌, inl, inr, List, [], ◌∷◌, ◌++◌, length, get_or, take, drop, map, refl, sym, ap, ◌∙◌, subst, arith, drop-cons, add-one, length-append, Some, None, Bool, true, false, not}
+use Rattle.std.proofs.Common.{◌≡◌, ◌≢◌, ℕ, suc, ◌+◌, ◌*◌, ◌<◌, ◌≤◌, ◌⊎◌, inl, inr, List, [], ◌∷◌, ◌++◌, length, get_or, take, drop, map, refl, sym, ap, ◌∙◌, subst, arith, drop-cons, add-one, zero-add, length-append, Some, None, Bool, true, false, not}
 use Rattle.std.proofs.lemmas.List.{take_more, take-append-drop, map-append, length-map, length-take, drop-map, take-map}
 use Rattle.std.proofs.lemmas.List.Sums.{sum_by-append}
 use Rattle.std.proofs.lemmas.Bool.{cases_order}
@@ -13,7 +13,8 @@ use Rattle.pla_reader.specs.Names.{bytes_of}
 use Rattle.pla_reader.specs.declared.name.Name.{Name}
 use Rattle.std.proofs.Math.Seq.{take-append_seam, drop-append_seam}
 use Rattle.std.specs.Prelude.{slice_get, Result, Ok, Err, OnOk, IfErr, MatchResult}
-use Rattle.std.specs.Prelude.{IfSome}
+use Rattle.std.specs.Prelude.{IfSome, All}
+use Rattle.std.proofs.lemmas.List.Elements.{All-head, All-drop}
 use Rattle.cube_core.specs.Function.{Function}
 use Rattle.lattice_grid.specs.Defects.{Defects}
 use Rattle.lattice_grid.specs.Lattice.{Lattice}
@@ -84,7 +85,7 @@ pub IsTested-none : (basis : Basis) (blocks : List Block) → IsTested basis blo
 IsTested-none basis blocks = let early = first_few basis.version in record {
   right = AreRight-none basis (map parts_of_block blocks);
   least_is = refl;
-  line_is = refl;
+  line_is = sym (zero-add (first_line basis.version));
   few = omega arith;
   low = omega arith;
   lines = omega (arith, early);
@@ -95,6 +96,12 @@ parts_at : (blocks : List Block) (k : ℕ) (block : Block) → k < length blocks
     → drop k (map parts_of_block blocks) ≡ parts_of_block block ∷ map parts_of_block (drop (suc k) blocks)
 parts_at blocks k block within is =
     drop-map parts_of_block k blocks ∙ ap (map parts_of_block) (drop-cons blocks k block within) ∙ ap (λ b. parts_of_block b ∷ map parts_of_block (drop (suc k) blocks)) (sym is)
+
+-- what each block may say
+pub block_at : (P : BlockParts → Type 0) (blocks : List Block) (k : ℕ) (block : Block) → k < length blocks → block ≡ get_or blocks k block → All P (map parts_of_block blocks)
+    → P (parts_of_block block)
+block_at P blocks k block within is all =
+    All-head P (parts_of_block block) (map parts_of_block (drop (suc k) blocks)) (subst (All P) (parts_at blocks k block within is) (All-drop P k (map parts_of_block blocks) all))
 
 front_at : (blocks : List Block) (k : ℕ) (block : Block) → k < length blocks → block ≡ get_or blocks k block
     → take (k + 1) (map parts_of_block blocks) ≡ take k (map parts_of_block blocks) ++ parts_of_block block ∷ []
@@ -152,9 +159,18 @@ pub lattice_refused : (basis : Basis) (least line : ℕ) (block : BlockParts) (f
     → (refusal : VerifyRefusal) → IsLatticeRefused basis.parts.inputs basis.rails line block.answer f refusal → IsBlockRefused basis least line block refusal
 lattice_refused basis least line block f of_output (Inputs at) h = h
 lattice_refused basis least line block f of_output (Output at) h = absurd h
-lattice_refused basis least line block f of_output (Literal at) h = (h.0, (h.1, f, record { lattice = h.2; of_output = of_output }, h.3))
-lattice_refused basis least line block f of_output (Wrong at x) h = (h.0, (h.1, f, record { lattice = h.2; of_output = of_output }, h.3, h.4))
+lattice_refused basis least line block f of_output (Literal at) h = (h.0, h.1, f, record { lattice = h.2; of_output = of_output }, h.3)
+lattice_refused basis least line block f of_output (Wrong at x) h = (h.0, h.1, f, record { lattice = h.2; of_output = of_output }, h.3, h.4)
 lattice_refused basis least line block f of_output NoMemory h = h
+
+-- what two facts of an Ok give, and what a fact of an Err gives
+pub on_ok_both : {T E P Q R : Type 0} (r : Result T E) → (P → Q → R) → OnOk r P → OnOk r Q → OnOk r R
+on_ok_both (Ok x) f p q = f p q
+on_ok_both (Err e) f p q = tt
+
+pub if_err_more : {T E : Type 0} {P Q : E → Type 0} (r : Result T E) → ((e : E) → P e → Q e) → IfErr r P → IfErr r Q
+if_err_more (Ok x) f p = tt
+if_err_more (Err e) f p = f e p
 
 -- the function of a block is one alone
 one_function : (basis : Basis) (least : ℕ) (block : BlockParts) (f g : Function) → IsOf basis.parts least block f → IsOf basis.parts least block g → f ≡ g
@@ -218,7 +234,7 @@ one_block_refusal basis least line block (Wrong at x) (Wrong other y) p q =
     let same = one_function basis least block q.2 p.2 q.3.of_output p.3.of_output in
     let lattice = one_lattice (lattice_of block.answer) q.1 p.1 q.3.lattice p.3.lattice in
     let assign = one_least p.1 (array_in block.answer) p.2 x y p.5
-        (subst (λ g. IsLeastFailureIn g (array_in block.answer) p.2 y) lattice (subst (λ f. IsLeastFailureIn q.1 (array_in block.answer) f y) same q.5)) in
+    (subst (λ g. IsLeastFailureIn g (array_in block.answer) p.2 y) lattice (subst (λ f. IsLeastFailureIn q.1 (array_in block.answer) f y) same q.5)) in
     ap (λ l. Wrong l x) (p.0 ∙ sym q.0) ∙ ap (Wrong other) assign
 
 -- the first refused block is one alone

@@ -81,9 +81,9 @@ pub record Shows (basis : Basis) (least : ℕ) (block : BlockParts) (g : Lattice
 abbrev pub IsLatticeRefused : ℕ → ℕ → ℕ → Answer → Function → VerifyRefusal → Type 0
 IsLatticeRefused n rails begins answer f (Inputs line) = ⊥
 IsLatticeRefused n rails begins answer f (Output line) = ⊥
-IsLatticeRefused n rails begins answer f (Literal line) = (line ≡ begins) × ((g : Lattice) × (lattice_of answer ≡ Some g) × (IsOverRails n rails g → ⊥))
+IsLatticeRefused n rails begins answer f (Literal line) = (line ≡ begins) × (g : Lattice) × (lattice_of answer ≡ Some g) × (IsOverRails n rails g → ⊥)
 IsLatticeRefused n rails begins answer f (Wrong line x) =
-    (line ≡ begins) × ((g : Lattice) × (lattice_of answer ≡ Some g) × IsOverRails n rails g × IsLeastFailureIn g (array_in answer) f x)
+    (line ≡ begins) × (g : Lattice) × (lattice_of answer ≡ Some g) × IsOverRails n rails g × IsLeastFailureIn g (array_in answer) f x
 IsLatticeRefused n rails begins answer f NoMemory = ⊥
 
 -- Why the block that begins at a line is not right: it is of no output, or of none that may stand here; its lattice has a literal
@@ -92,10 +92,10 @@ abbrev pub IsBlockRefused : Basis → ℕ → ℕ → BlockParts → VerifyRefus
 IsBlockRefused basis least begins block (Inputs line) = ⊥
 IsBlockRefused basis least begins block (Output line) = (line ≡ begins) × ((f : Function) → IsOf basis.parts least block f → ⊥)
 IsBlockRefused basis least begins block (Literal line) =
-    (line ≡ begins) × ((g : Lattice) × (f : Function) × Shows basis least block g f × (IsOverRails basis.parts.inputs basis.rails g → ⊥))
+    (line ≡ begins) × (g : Lattice) × (f : Function) × Shows basis least block g f × (IsOverRails basis.parts.inputs basis.rails g → ⊥)
 IsBlockRefused basis least begins block (Wrong line x) =
     (line ≡ begins)
-    × ((g : Lattice) × (f : Function) × Shows basis least block g f × IsOverRails basis.parts.inputs basis.rails g × IsLeastFailureIn g (array_in block.answer) f x)
+    × (g : Lattice) × (f : Function) × Shows basis least block g f × IsOverRails basis.parts.inputs basis.rails g × IsLeastFailureIn g (array_in block.answer) f x
 IsBlockRefused basis least begins block NoMemory = ⊥
 
 -- A block is refused, the first that is not right.

@@ -111,5 +111,8 @@ job_of (word ∷ words) = option_and_then (λ verb. option_and_then (job_from ve
 
 -- The shape of a job, if it has one, has at most sixteen rows and columns.
 abbrev pub HasSmallShape : Job → Type 0
+HasSmallShape (job.Pairs output) = Unit {0}
+HasSmallShape (job.Dual output) = Unit {0}
 HasSmallShape (job.Cnf output size) = (size.rows ≤ 16) × (size.cols ≤ 16)
-HasSmallShape _ = Unit {0}
+HasSmallShape job.Verify = Unit {0}
+HasSmallShape job.Check = Unit {0}

@@ -4,6 +4,7 @@ ghost use Rattle.clause_core.specs.CnfRead.{cnf_of};
 ghost use Rattle.lrat_replay.specs.LratRead.{lrat_of};
 ghost use Rattle.pla_reader.specs.Parts.{parts_of, IsPla};
 ghost use Rattle.pla_reader.specs.Reading.{Reads};
+ghost use Rattle.report_text.specs.Bounds.{IsReport};
 ghost use Rattle.report_text.specs.Reading.{Gives};
 ghost use Rattle.report_text.specs.Report.{parts_of_report};
 ghost use Rattle.wire_io.specs.Told.{IsSpent, LosesUpTo};
@@ -163,6 +164,7 @@ pub(crate) fn input_proof<S: Source>(alloc: Global, side: &mut S) -> Result<Proo
 /// The report that a side file has, or how the run ends.
 pub(crate) fn input_report<S: Source>(alloc: Global, side: &mut S) -> Result<Report, Ending>
     ensures reads { IfOk result (λ report. IfSome (S.left side.old) (λ bytes. (length bytes ≤ most_side_bytes) × Gives bytes (Ok (parts_of_report report)))) }
+    ensures whole { IfOk result (λ report. IsReport (parts_of_report report)) }
     ensures spent { OnOk result (IsSpent (S.left side.new)) }
     ensures taken { OnOk result (LosesUpTo (S.left side.old) (S.left side.new) most_side_bytes) }
     ensures ends { IfErr result (λ ending. EndsReport ending (change (S.left side.old) (S.faults side.old) (S.left side.new) (S.faults side.new))) }

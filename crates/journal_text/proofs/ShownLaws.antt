@@ -52,7 +52,7 @@ excludes_on version rails output f parts a function bounds h g right =
     let array = marked.0 in
     let area = small_area a.size.rows a.size.cols array.few_rows array.few_cols in
     let q : Asked = record { function = f; rails = rails; size = a.size; array = Some a } in
-    let question : IsQuestion q = record { function = function; size = record { some_rows = array.some_rows; some_cols = array.some_cols; few = omega (arith, area) }; few = omega (arith, area); array = (array, refl) } in
+    let question : IsQuestion q = record { function = function; size = record { some_rows = array.some_rows; some_cols = array.some_cols; few = omega (arith, area) }; few = omega (arith, area); array = refl } in
     let same : encoding q ≡ formula_of rails f h.section = λ i. encoding (record { function = f; rails = rails; size = sym marked.1 i; array = sym h.array_is i }) in
     unsolved (formula_of rails f h.section) (map (λ x. Add x) h.section.steps) h.holds.refutes
     (subst HasSolution same (solution_of q question (record { lattice = g; kept = right.lattice; size_is = sym right.realises.same_size; over = right.over; realises = right.realises })))

@@ -12,7 +12,8 @@ const DUAL: &[&str] = &["dual"];
 /// The conjunction of two inputs, and its report.
 const AND: &str = ".i 2\n.o 1\n11 1\n.e\n";
 
-const AND_REPORT: &str = "lattice report 2\ninputs x0 x1\nrails 1048575\noutput 0 f0 found 2x1\nx1\nx0\nend\n";
+const AND_REPORT: &str =
+    "lattice report 2\ninputs x0 x1\nrails 1048575\noutput 0 f0 found 2x1\nx1\nx0\nend\n";
 
 /// Three outputs as one writes them by hand, and their report.
 const SLICE: &str =
@@ -155,10 +156,12 @@ fn odd_parity_of_ten_inputs(rt: HostRuntime) -> Result<(), Fail> {
     let words = words_of(alloc, DUAL)?;
     let mut pla = FirmSource::new(parity(alloc)?, 4096);
     let mut side = FirmSource::new(Vec::new(alloc), 4);
-    let mut out = FirmSink::new(alloc, 100, 8192)?;
+    let mut out = FirmSink::new(alloc, 150, 8192)?;
     let mut notes = FirmSink::new(alloc, 200, 1)?;
     let journal = FirmSink::new(alloc, 1, 1)?;
-    let ended = run(alloc, &words, &mut pla, &mut side, &mut out, journal, &mut notes);
+    let ended = run(
+        alloc, &words, &mut pla, &mut side, &mut out, journal, &mut notes,
+    );
     assert_eq!(rt; ended.status, Status::Done);
     assert_eq!(rt; notes.total(), 0);
     let front =

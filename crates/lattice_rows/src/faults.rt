@@ -9,8 +9,11 @@ use wire_io::memory::{MemorySink, MemorySource};
 
 /// A PLA of two inputs and its dual lattice as a report; a formula with its refutation.
 const AND: &str = ".i 2\n.o 1\n11 1\n.e\n";
+
 const AND_REPORT: &str = "lattice report 1\ninputs x0 x1\noutput 0 f0 found 2x1\nx1\nx0\nend\n";
+
 const BOTH: &str = "p cnf 1 2\n1 0\n-1 0\n";
+
 const STEPS: &str = "3 0 1 2 0\n";
 
 /// The device whose second call fails.
@@ -48,7 +51,9 @@ fn try_fault(
     let mut out = MemorySink::new(alloc, 4000, 1, out_fails)?;
     let journal = MemorySink::new(alloc, 1, 1, Vec::new(alloc))?;
     let mut notes = MemorySink::new(alloc, 200, 7, Vec::new(alloc))?;
-    let ended = run(alloc, &words, &mut pla, &mut side, &mut out, journal, &mut notes);
+    let ended = run(
+        alloc, &words, &mut pla, &mut side, &mut out, journal, &mut notes,
+    );
     let (status, written, note) = match failing {
         Failing::Pla | Failing::Side => (Status::ReadFault, 0, "read fault\n"),
         Failing::Out => (Status::WriteFault, 1, "write fault\n"),

@@ -9,7 +9,8 @@ use wire_io::memory::{MemorySink, MemorySource};
 /// The text of the conjunction of two inputs, and its report.
 const AND: &str = ".i 2\n.o 1\n11 1\n.e\n";
 
-const AND_REPORT: &str = "lattice report 2\ninputs x0 x1\nrails 1048575\noutput 0 f0 found 3x1\nx0\nx1\nx0\nend\n";
+const AND_REPORT: &str =
+    "lattice report 2\ninputs x0 x1\nrails 1048575\noutput 0 f0 found 3x1\nx0\nx1\nx0\nend\n";
 
 /// The words of the command.
 const PAIRS: &[&str] = &["pairs"];
@@ -109,7 +110,15 @@ fn no_words(rt: HostRuntime) -> Result<(), Fail> {
     let mut out = FirmSink::new(alloc, 200, 7)?;
     let mut notes = FirmSink::new(alloc, 200, 1)?;
     let journal = FirmSink::new(alloc, 1, 1)?;
-    let ended = run(alloc, &[], &mut pla, &mut side, &mut out, journal, &mut notes);
+    let ended = run(
+        alloc,
+        &[],
+        &mut pla,
+        &mut side,
+        &mut out,
+        journal,
+        &mut notes,
+    );
     assert_eq!(rt; ended.status, Status::Words);
     assert_eq!(rt; ended.status.number(), 1);
     assert_eq!(rt; notes.bytes(), b"words refused\n".as_slice());
@@ -127,7 +136,9 @@ fn a_source_that_fails(rt: HostRuntime) -> Result<(), Fail> {
     let mut out = MemorySink::new(alloc, 200, 7, Vec::new(alloc))?;
     let mut notes = MemorySink::new(alloc, 200, 1, Vec::new(alloc))?;
     let journal = MemorySink::new(alloc, 1, 1, Vec::new(alloc))?;
-    let ended = run(alloc, &words, &mut pla, &mut side, &mut out, journal, &mut notes);
+    let ended = run(
+        alloc, &words, &mut pla, &mut side, &mut out, journal, &mut notes,
+    );
     assert_eq!(rt; ended.status, Status::ReadFault);
     assert_eq!(rt; notes.bytes(), b"read fault\n".as_slice());
     assert_eq!(rt; out.bytes().len(), 0);
@@ -144,7 +155,9 @@ fn a_sink_that_fails(rt: HostRuntime) -> Result<(), Fail> {
     let mut out = MemorySink::new(alloc, 200, 1, vec![in alloc; 2]?)?;
     let mut notes = MemorySink::new(alloc, 200, 1, Vec::new(alloc))?;
     let journal = MemorySink::new(alloc, 1, 1, Vec::new(alloc))?;
-    let ended = run(alloc, &words, &mut pla, &mut side, &mut out, journal, &mut notes);
+    let ended = run(
+        alloc, &words, &mut pla, &mut side, &mut out, journal, &mut notes,
+    );
     assert_eq!(rt; ended.status, Status::WriteFault);
     assert_eq!(rt; out.bytes(), b"l".as_slice());
     assert_eq!(rt; notes.bytes(), b"write fault\n".as_slice());
@@ -160,7 +173,15 @@ fn notes_that_fail(rt: HostRuntime) -> Result<(), Fail> {
     let mut out = MemorySink::new(alloc, 200, 1, Vec::new(alloc))?;
     let mut notes = MemorySink::new(alloc, 200, 1, vec![in alloc; 3]?)?;
     let journal = MemorySink::new(alloc, 1, 1, Vec::new(alloc))?;
-    let ended = run(alloc, &[], &mut pla, &mut side, &mut out, journal, &mut notes);
+    let ended = run(
+        alloc,
+        &[],
+        &mut pla,
+        &mut side,
+        &mut out,
+        journal,
+        &mut notes,
+    );
     assert_eq!(rt; ended.status, Status::Words);
     assert_eq!(rt; notes.bytes(), b"wo".as_slice());
     assert_eq!(rt; ended.journal.bytes().len(), 0);

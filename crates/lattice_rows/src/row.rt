@@ -34,7 +34,9 @@ pub fn try_row(rt: &impl Abort, alloc: Global, row: &Row) -> Result<(), Fail> {
     let mut out = FirmSink::new(alloc, 4000, 7)?;
     let mut notes = FirmSink::new(alloc, 200, 1)?;
     let journal = FirmSink::new(alloc, 1, 1)?;
-    let ended = run(alloc, &words, &mut pla, &mut side, &mut out, journal, &mut notes);
+    let ended = run(
+        alloc, &words, &mut pla, &mut side, &mut out, journal, &mut notes,
+    );
     assert_eq!(rt; ended.status, row.status);
     assert_eq!(rt; out.bytes(), row.out.as_bytes());
     assert_eq!(rt; notes.bytes(), row.notes.as_bytes());

@@ -187,7 +187,9 @@ fn a_side_that_fails(rt: HostRuntime) -> Result<(), Fail> {
     let mut out = MemorySink::new(alloc, 200, 1, Vec::new(alloc))?;
     let mut notes = MemorySink::new(alloc, 200, 1, Vec::new(alloc))?;
     let journal = MemorySink::new(alloc, 1, 1, Vec::new(alloc))?;
-    let ended = run(alloc, &words, &mut pla, &mut side, &mut out, journal, &mut notes);
+    let ended = run(
+        alloc, &words, &mut pla, &mut side, &mut out, journal, &mut notes,
+    );
     assert_eq!(rt; ended.status, Status::ReadFault);
     assert_eq!(rt; out.bytes().len(), 0);
     assert_eq!(rt; notes.bytes(), b"read fault\n".as_slice());

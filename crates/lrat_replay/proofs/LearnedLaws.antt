@@ -1,9 +1,16 @@
 -- Steps that come one after the other.
 use Rattle.std.proofs.lemmas.List.Sums.{sum_by-append}
-use Rattle.std.proofs.Common.{◌≡◌, ℕ, suc, ◌+◌, not, cond, List, [], ◌∷◌, ◌++◌, length, refl, ap, sym, ◌∙◌, subst, append_assoc}
+use Rattle.std.proofs.Common.{◌≡◌, ℕ, Bool, true, inl, inr, arith, suc, ◌+◌, not, cond, List, [], ◌∷◌, ◌++◌, length, refl, ap, sym, ◌∙◌, subst, append_assoc}
 use Rattle.clause_core.specs.Formula.{Formula}
 use Rattle.lrat_replay.specs.declared.line.Step.{Step}
-use Rattle.lrat_replay.specs.Book.{Book, Numbered, after_addition, is_empty, start}
+use Rattle.std.specs.List.{Contains}
+use Rattle.std.proofs.lemmas.Bool.{true≢false}
+use Rattle.std.proofs.lemmas.List.Elements.{Contains-append_right}
+use Rattle.clause_core.specs.Literal.{clause_is_true}
+use Rattle.lrat_replay.specs.declared.line.LineKind.TheVariants.{Add}
+use Rattle.lrat_replay.specs.Together.{IsEndSound}
+use Rattle.lrat_replay.proofs.Sound.{AllTrue, addition_true, line_true, start_true, Contains-cases, Contains-head}
+use Rattle.lrat_replay.specs.Book.{Book, Numbered, all_of, after_addition, is_empty, start}
 use Rattle.lrat_replay.specs.New.{AreAccepted, AreNew, AllTellPropagation, Spent}
 use Rattle.lrat_replay.specs.Learned.{after_steps, AreFresh, count_full, Learns, AreWrittenNew, SpentWritten, without_hints}
 
@@ -75,3 +82,17 @@ spent_written formula written budget h = record {
   are_new : (book : Book) (steps : List Step) → AreWrittenNew book steps → AreNew book (without_hints steps)
   are_new book [] h = tt
   are_new book (x ∷ steps) h = (h.1, are_new (after_addition book x.id x.clause) steps h.2)
+
+-- each accepted step is true under a valuation that satisfies the formula
+steps_true : (v : ℕ → Bool) (book : Book) (steps : List Numbered) → AllTrue v (all_of book) → AreAccepted book steps → (step : Numbered) → Contains steps step → clause_is_true v step.clause ≡ true
+steps_true v book [] a h step m = absurd (omega arith)
+steps_true v book (x ∷ steps) a h step m = elim (Contains-cases x steps step m) [
+  | inl e ↦ subst (λ (s : Numbered). clause_is_true v s.clause ≡ true) e (addition_true v book x.id x.clause h.0.0 a h.0.1)
+  | inr e ↦ steps_true v (after_addition book x.id x.clause) steps (line_true v book (Add (record { id = x.id; clause = x.clause; hints = h.0.0 })) a h.0.1) h.1 step e
+]
+
+pub end_sound : IsEndSound
+end_sound formula steps a h v s =
+    let last : Numbered = record { id = h.id; clause = [] } in
+    let inside = subst (λ all. Contains all last) (sym h.whole) (Contains-append_right h.before (last ∷ []) last (Contains-head last [])) in
+    true≢false (sym (steps_true v (start formula) steps (start_true v formula s) a last inside))

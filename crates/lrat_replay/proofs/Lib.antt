@@ -15,3 +15,4 @@ pub mod StepLaws
 pub mod TallyLaws
 pub mod LearnedLaws
 pub mod SubsetLaws
+pub mod BudgetLaws

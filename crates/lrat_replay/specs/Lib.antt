@@ -14,3 +14,4 @@ pub mod Ledger
 pub mod Learned
 pub mod Together
 pub mod Subset
+pub mod Budget

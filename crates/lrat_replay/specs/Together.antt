@@ -1,10 +1,10 @@
 -- How the steps of one call and of the next come together.
 use Rattle.std.specs.Prelude.{◌≡◌, ◌+◌, ℕ, List, ◌++◌}
-use Rattle.clause_core.specs.Formula.{Formula}
+use Rattle.clause_core.specs.Formula.{Formula, HasNoSolution}
 use Rattle.lrat_replay.specs.declared.line.Step.{Step}
-use Rattle.lrat_replay.specs.Book.{Book, Numbered}
-use Rattle.lrat_replay.specs.New.{AllTellPropagation, Spent}
-use Rattle.lrat_replay.specs.Learned.{after_steps, count_full, Learns, SpentWritten, without_hints}
+use Rattle.lrat_replay.specs.Book.{Book, Numbered, start}
+use Rattle.lrat_replay.specs.New.{AreAccepted, AllTellPropagation, Spent}
+use Rattle.lrat_replay.specs.Learned.{after_steps, count_full, Learns, EndsEmpty, SpentWritten, without_hints}
 
 -- what two calls learned, one after the other, is as if one call had learned it
 abbrev pub LearnTogether : Type 0
@@ -19,3 +19,7 @@ TellTogether = (book : Book) (a b : List Numbered) → AllTellPropagation book a
 -- a budget that is spent on written steps, each by its own hints, is spent
 abbrev pub IsSpentByWriting : Type 0
 IsSpentByWriting = (formula : Formula) (steps : List Step) (budget : ℕ) → SpentWritten formula steps budget → Spent formula (without_hints steps) budget
+
+-- accepted steps that end with the empty clause leave the formula no solution
+abbrev pub IsEndSound : Type 0
+IsEndSound = (formula : Formula) (steps : List Numbered) → AreAccepted (start formula) steps → EndsEmpty steps → HasNoSolution formula

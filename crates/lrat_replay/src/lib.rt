@@ -2,7 +2,8 @@
 #![tactic(auto)]
 
 ghost use Rattle.lrat_replay.specs.Laws.{IsSound, IsRefutationSound};
-ghost use Rattle.lrat_replay.specs.Together.{LearnTogether, CountTogether, TellTogether, IsSpentByWriting};
+ghost use Rattle.lrat_replay.specs.Budget.{AreFewerThanSets};
+ghost use Rattle.lrat_replay.specs.Together.{LearnTogether, CountTogether, TellTogether, IsSpentByWriting, IsEndSound};
 
 mod deny;
 pub mod fault;
@@ -35,4 +36,10 @@ pub fn steps_together()
     ensures count { CountTogether }
     ensures tell { TellTogether }
     ensures spent { IsSpentByWriting }
+    ensures end { IsEndSound }
+{}
+
+/// How many new steps there can be.
+pub fn few_new_steps()
+    ensures { AreFewerThanSets }
 {}

@@ -10,6 +10,7 @@ use clause_core::formula::Formula;
 use clause_core::lit::Lit;
 
 /// A ledger with the number of its steps; all else is as the ledger within has it.
+#[derive(Drop)]
 pub struct Tally<L: Ledger> {
     inner: L,
     count: u64,

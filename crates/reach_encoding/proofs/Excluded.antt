@@ -1,5 +1,4 @@
 -- What a formula without solutions excludes, and that formulas are small enough.
-use Rattle.std.proofs.lemmas.Option.{IfSome_then}
 use Rattle.path_meaning.proofs.Larger.{realised_larger}
 use Rattle.path_meaning.proofs.Plainly.{realised_plainly}
 use Rattle.reach_encoding.specs.Encoding.{Question, IsQuestion, encoding}
@@ -14,7 +13,7 @@ excluded_below f rails small large function size few fits none h =
     ((realised_plainly f.inputs rails f large).1 (realised_larger f.inputs rails f small large fits size h)))
 
 asked_of : (q : Question) → IsQuestion q → IsAsked q
-asked_of q ok = record { function = ok.function; size = ok.size; few = ok.few; array = IfSome_then q.array ok.array (λ a h. h.1) }
+asked_of q ok = record { function = ok.function; size = ok.size; few = ok.few; array = ok.array }
 
 pub small_enough : IsSmallEnough
 unfolding encoding

@@ -12,7 +12,6 @@ use Rattle.lattice_grid.specs.Control.{value_of}
 use Rattle.lattice_grid.specs.Lattice.{IsLattice, control_at}
 use Rattle.lattice_grid.specs.Rails.{MayStand, IsOverRails}
 use Rattle.lattice_grid.proofs.RailsLaws.{control_at_number, MayStand-NamesBelow}
-use Rattle.std.proofs.lemmas.Option.{IfSome_then}
 use Rattle.lattice_grid.specs.Path.{IsWithin}
 use Rattle.path_meaning.specs.Closed.{StopsBelow, StopsBeside}
 use Rattle.path_meaning.specs.Defective.{RealisesIn, IsRealisedIn, JoinedIn, is_on_in, defect_in, with_defect}
@@ -126,7 +125,7 @@ module _ (q : Question) (v : ℕ → Bool) (ok : IsQuestion q) (parts : HasParts
 
   pub realises_read : RealisesIn (lattice_read q v) q.function q.array
   realises_read = record {
-    same_size = IfSome_then q.array ok.array (λ a h. h.1);
+    same_size = ok.array;
     on = λ x on.
         let found = asked_found q x ok.function (inl on) in
         subst (JoinedIn (lattice_read q v) q.array) found.2 (joined_at found.0 found.1 (ap (set.contains q.function.on) found.2 ∙ on));

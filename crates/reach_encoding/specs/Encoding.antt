@@ -13,7 +13,7 @@ use Rattle.lattice_grid.specs.declared.control.Control.{Control}
 use Rattle.lattice_grid.specs.declared.control.Control.TheVariants.{Zero}
 use Rattle.lattice_grid.specs.declared.shape.Place.{Place}
 use Rattle.lattice_grid.specs.Control.{value_of}
-use Rattle.lattice_grid.specs.Defects.{Defects, IsArray}
+use Rattle.lattice_grid.specs.Defects.{Defects}
 use Rattle.lattice_grid.specs.Neighbours.{four_of, eight_of}
 use Rattle.lattice_grid.specs.Rails.{controls_of}
 use Rattle.lattice_grid.specs.Rectangle.{Size, IsSize}
@@ -31,7 +31,7 @@ pub record IsQuestion (q : Question) : Type 0 where
   pub function : IsFunction q.function
   pub size : IsSize q.size
   pub few : q.size.rows * q.size.cols ≤ 32768
-  pub array : IfSome q.array (λ a. IsArray a × (a.size ≡ q.size))
+  pub array : IfSome q.array (λ a. a.size ≡ q.size)
 
 -- the numbers below n, rising
 abbrev pub below : ℕ → List ℕ

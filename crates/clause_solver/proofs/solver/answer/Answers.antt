@@ -5,7 +5,7 @@ use Rattle.lrat_replay.specs.Marks.{room}
 use Rattle.clause_solver.specs.declared.verdict.Verdict.{Verdict}
 use Rattle.clause_solver.specs.declared.verdict.Verdict.TheVariants.{Satisfied}
 use Rattle.clause_solver.specs.declared.verdict.SolveFault.{SolveFault}
-use Rattle.clause_solver.proofs.Solved.{model_satisfies, opens, keeps_open}
+use Rattle.clause_solver.proofs.Solved.{model_satisfies, opens, keeps_open, spent_below, refuted_no_solution}
 use Rattle.clause_solver.proofs.solver.answer.Goals as goal
 
 same_values : (v w : List Bool) (r s : Result Verdict SolveFault) → r ≡ Ok (Satisfied v) → s ≡ Ok (Satisfied w) → r ≡ s → v ≡ w
@@ -27,3 +27,17 @@ returns-in-Ok-Spent-clause-open g c = λ _.
     let so = rw c.in-Ok-Spent.field-0-is at c.in-Ok-Spent.ensures.so in
     let kept = keeps_open (g.L.Ledger.book c.args.ledger.now) c.requires.kept.count c.requires.kept.history (record { book = g.L.Ledger.book c.search.new.ledger; broken = g.L.Ledger.broken c.search.new.ledger; clauses = c.search.new.work.clauses; track = c.search.new.work.trail; width = room c.search.new.work.seen }) c.args.budget so.learns so.goes.ready in
     opens (g.L.Ledger.book c.search.new.ledger) kept.count kept.history so.undecided
+
+pub returns-in-Ok-Spent-clause-sufficient : goal.returns-in-Ok-Spent-clause-sufficient
+returns-in-Ok-Spent-clause-sufficient g c = λ _.
+    let so = rw c.in-Ok-Spent.field-0-is at c.in-Ok-Spent.ensures.so in
+    spent_below (g.L.Ledger.book c.args.ledger.now) c.requires.kept.count c.requires.kept.history (record { book = g.L.Ledger.book c.search.new.ledger; broken = g.L.Ledger.broken c.search.new.ledger; clauses = c.search.new.work.clauses; track = c.search.new.work.trail; width = room c.search.new.work.seen }) c.args.budget so.learns so.goes.ready
+
+pub returns-in-Ok-Refuted-clause-kept : goal.returns-in-Ok-Refuted-clause-kept
+returns-in-Ok-Refuted-clause-kept g c =
+    let so = rw c.in-Ok-Refuted.field-0-is at c.in-Ok-Refuted.ensures.so in
+    record {
+      whole = so.whole;
+      ends = so.ends;
+      no_solution = refuted_no_solution (g.L.Ledger.book c.args.ledger.now) (g.L.Ledger.book c.search.new.ledger) c.requires.kept.count c.args.budget c.requires.kept.history c.search.ensures.at_most so.ends;
+    }

@@ -1,6 +1,6 @@
 use Rattle.pla_reader.specs.Parts.{parts_of}
 use Rattle.four_lattice.specs.Lattices.{report_by}
-use Rattle.four_lattice.proofs.BlocksLaws.{report-head, report-blocks, report-end, report-whole}
+use Rattle.four_lattice.proofs.BlocksLaws.{input_names_are, report-head, report-blocks, report-end, report-whole}
 use Rattle.four_lattice.proofs.lattices.write_lattices.Goals as goal
 
 pub returns-in_err-write_head-clause-front : goal.returns-in_err-write_head-clause-front
@@ -21,3 +21,6 @@ returns-clause-ok g c =
 pub returns-clause-front : goal.returns-clause-front
 returns-clause-front g c =
     report-end (report_by c.args.how c.args.output (parts_of c.args.pla.now)) _ _ _ _ c.in_ok-write_head.ensures.ok c.in_ok-write_chosen.ensures.ok c.in_ok-write_end.ensures.front
+
+pub write_head-requires-clause-names : goal.write_head-requires-clause-names
+write_head-requires-clause-names g c = input_names_are c.args.pla.now c.requires.whole

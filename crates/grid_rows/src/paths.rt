@@ -1,6 +1,5 @@
+use crate::functions::exclusive_or;
 use cube_core::assign::Assign;
-use cube_core::spec::Spec;
-use cube_core::table::Table;
 use lattice_grid::control::Control;
 use lattice_grid::grid::Grid;
 use lattice_grid::pairs::pairs;
@@ -9,17 +8,6 @@ use path_meaning::marks::Marks;
 use path_meaning::paths::{cut, joins};
 use path_meaning::realise::realises;
 use std::test::Fail;
-
-/// The function of two inputs that is 1 where exactly one of them is.
-fn exclusive_or() -> Option<Spec> {
-    let mut on = Table::empty();
-    on.add(Assign::new(1)?);
-    on.add(Assign::new(2)?);
-    let mut off = Table::empty();
-    off.add(Assign::new(0)?);
-    off.add(Assign::new(3)?);
-    Spec::new(2, on, off)
-}
 
 #[test]
 fn corner_to_corner_is_cut(rt: HostRuntime) -> Result<(), Fail> {

@@ -1,12 +1,17 @@
-//! Runs of the command `cnf`, and encodings and their solutions.
-use crate::row::{Row, done, refused, try_row};
+//! Encodings and their solutions.
+ghost use Rattle.std.specs.Prelude.{◌≡◌, ◌*◌, ◌≤◌, IfOk, IfSome, option_copied};
+ghost use Rattle.clause_core.specs.Formula.{IsSatisfiedBy};
+ghost use Rattle.lattice_grid.specs.Rails.{IsOverRails};
+ghost use Rattle.path_meaning.specs.Defective.{RealisesIn};
+ghost use Rattle.reach_encoding.specs.Encoding.{encoding};
+
+use crate::functions::{conjunction, exclusive_or};
 use clause_core::valuation::Valuation;
-use cube_core::assign::Assign;
 use cube_core::spec::Spec;
 use cube_core::table::Table;
-use four_lattice::status::Status;
 use lattice_grid::array::{Array, Defect};
 use lattice_grid::control::Control;
+use lattice_grid::grid::Grid;
 use lattice_grid::pairs::pairs;
 use lattice_grid::rails::Rails;
 use lattice_grid::shape::{Place, Shape};
@@ -16,74 +21,7 @@ use reach_encoding::laws::read;
 use reach_encoding::model::model_of;
 use std::alloc::{AllocError, Global};
 use std::test::Fail;
-
-/// One input, and an output that is that input.
-const ONE: &str = ".i 1\n.o 1\n1 1\n.e\n";
-
-/// The formula of one cell for it.
-const ONE_CELL: &str =
-    "p cnf 8 13\n1 2 3 4 0\n-1 -5 0\n-1 -6 0\n-2 5 0\n-2 6 0\n-3 -5 0\n-3 6 0\n-4 5 0\n-4 -6 0\n-5 7 0\n-7 0\n6 8 0\n-8 0\n";
-
-/// Words that are refused.
-fn refused_words(words: &'static [&'static str]) -> Row {
-    refused(words, ONE, "", Status::Words, "words refused\n")
-}
-
-#[test]
-fn formulas(rt: HostRuntime) -> Result<(), Fail> {
-    let rows = [
-        done(&["cnf", "--rows", "1", "--cols", "1"], ONE, "", ONE_CELL),
-        done(
-            &["cnf", "--cols", "1", "--output", "0", "--rows", "1"],
-            ONE,
-            "",
-            ONE_CELL,
-        ),
-        // No assignment is asked.
-        done(
-            &["cnf", "--rows", "1", "--cols", "1"],
-            ".i 1\n.o 1\n.type fr\n.e\n",
-            "",
-            "p cnf 4 1\n1 2 3 4 0\n",
-        ),
-        refused(
-            &["cnf", "--rows", "1", "--cols", "1", "--output", "1"],
-            ONE,
-            "",
-            Status::Input,
-            "input refused: NoSuchOutput\n",
-        ),
-        refused_words(&["cnf"]),
-        refused_words(&["cnf", "--rows", "1"]),
-        refused_words(&["cnf", "--rows", "0", "--cols", "1"]),
-        refused_words(&["cnf", "--rows", "1", "--cols", "17"]),
-        refused_words(&["cnf", "--rows", "1", "--cols", "1", "J"]),
-        refused_words(&["pairs", "--rows", "1"]),
-    ];
-    for row in &rows {
-        try_row(&rt, rt.alloc(), row)?;
-    }
-    Ok(())
-}
-
-/// The two-input function that is 1 where exactly one input is.
-fn exclusive_or() -> Option<Spec> {
-    let mut on = Table::empty();
-    on.add(Assign::new(1)?);
-    on.add(Assign::new(2)?);
-    let mut off = Table::empty();
-    off.add(Assign::new(0)?);
-    off.add(Assign::new(3)?);
-    Spec::new(2, on, off)
-}
-
-/// Two inputs at once.
-fn conjunction() -> Option<Spec> {
-    let mut on = Table::empty();
-    on.add(Assign::new(3)?);
-    let off = on.complement(2);
-    Spec::new(2, on, off)
-}
+use wire_io::fault::NoMemory;
 
 #[test]
 fn a_lattice_is_a_solution(rt: HostRuntime) -> Result<(), Fail> {
@@ -92,8 +30,10 @@ fn a_lattice_is_a_solution(rt: HostRuntime) -> Result<(), Fail> {
     let grid = pairs(alloc, &spec)?;
     assert_eq!(rt; grid.shape().rows(), 2);
     assert_eq!(rt; grid.shape().cols(), 2);
-    let formula = encode(alloc, &spec, Rails::all(), grid.shape(), None)?;
-    let values = model_of(alloc, &spec, Rails::all(), &grid, None)?;
+    let rails = Rails::all();
+    assert!(rt; grid.allowed(spec.inputs(), rails));
+    let formula = encode(alloc, &spec, rails, grid.shape(), None)?;
+    let values = model_of(alloc, &spec, rails, &grid, None)?;
     assert_eq!(rt; formula.vars(), 56);
     assert_eq!(rt; values.vars(), 56);
     assert!(rt; formula.satisfied_by(&values));
@@ -120,17 +60,45 @@ fn stuck_cells(rt: HostRuntime) -> Result<(), Fail> {
     Ok(())
 }
 
+/// The lattice that a solution of the formula of a question chooses.
+fn lattice_of(
+    alloc: Global,
+    spec: &Spec,
+    rails: Rails,
+    shape: Shape,
+    array: Option<&Array>,
+    values: &Valuation,
+) -> Result<Grid, NoMemory>
+    requires few { shape.rows * shape.cols ≤ 32768 }
+    requires array { IfSome (option_copied array) (λ a. a.size ≡ shape) }
+    requires satisfied { IsSatisfiedBy values.now (encoding (record { function = spec.now; rails = rails; size = shape; array = option_copied array })) }
+    ensures size { IfOk result (λ grid. grid.size ≡ shape) }
+    ensures over { IfOk result (IsOverRails spec.now.inputs rails) }
+    ensures realises { IfOk result (λ grid. RealisesIn grid spec.now (option_copied array.entry)) }
+{
+    prove!(shape.rows() > 0);
+    read();
+    decode(alloc, spec.inputs(), rails, shape, values)
+}
+
 #[test]
 fn the_first_chosen_controls_are_read(rt: HostRuntime) -> Result<(), Fail> {
     let alloc = rt.alloc();
+    let rails = Rails::all();
+    // No assignment is asked, so that some control at each cell is a solution.
+    let free = Spec::new(1, Table::empty(), Table::empty()).ok_or("a function")?;
     let shape = Shape::new(2, 1).ok_or("a shape")?;
+    let formula = encode(alloc, &free, rails, shape, None)?;
     let mut values = vec![in alloc; true; 8]?;
     values[0] = false;
     values[1] = false;
     values[2] = false;
-    let grid = decode(alloc, 1, Rails::all(), shape, &Valuation::new(values))?;
-    assert_eq!(rt; grid.at(Place { row: 0, col: 0 }), Control::Bar(0));
-    assert_eq!(rt; grid.at(Place { row: 1, col: 0 }), Control::Zero);
+    let values = Valuation::new(values);
+    assert_eq!(rt; formula.vars(), 8);
+    assert!(rt; formula.satisfied_by(&values));
+    let grid = lattice_of(alloc, &free, rails, shape, None, &values)?;
+    assert_eq!(rt; grid.row(0), [Control::Bar(0)].as_slice());
+    assert_eq!(rt; grid.row(1), [Control::Zero].as_slice());
     Ok(())
 }
 
@@ -172,13 +140,12 @@ fn a_lattice_on_stuck_cells(rt: HostRuntime) -> Result<(), Fail> {
     let values = solution(alloc)?;
     assert!(rt; formula.vars() <= values.vars());
     assert!(rt; formula.satisfied_by(&values));
-    read();
-    let grid = decode(alloc, spec.inputs(), rails, shape, &values)?;
+    let grid = lattice_of(alloc, &spec, rails, shape, Some(&array), &values)?;
     assert_eq!(rt; grid.row(0), [Control::Plain(0), Control::Zero].as_slice());
     assert_eq!(rt; grid.row(1), [Control::Plain(1), Control::Zero].as_slice());
     let again = model_of(alloc, &spec, rails, &grid, Some(&array))?;
     assert!(rt; formula.satisfied_by(&again));
-    let same = decode(alloc, spec.inputs(), rails, shape, &again)?;
+    let same = lattice_of(alloc, &spec, rails, shape, Some(&array), &again)?;
     assert_eq!(rt; same.row(0), grid.row(0));
     assert_eq!(rt; same.row(1), grid.row(1));
     Ok(())

@@ -1,23 +1,10 @@
-use cube_core::assign::Assign;
-use cube_core::spec::Spec;
-use cube_core::table::Table;
+use crate::functions::exclusive_or;
 use lattice_grid::control::Control;
 use lattice_grid::grid::Grid;
 use lattice_grid::neighbours::{eight, four};
 use lattice_grid::pairs::pairs;
 use lattice_grid::shape::{Place, Shape};
 use std::test::Fail;
-
-/// The two-input functions that are 1 at exactly one input being 1.
-fn exclusive_or() -> Option<Spec> {
-    let mut on = Table::empty();
-    on.add(Assign::new(1)?);
-    on.add(Assign::new(2)?);
-    let mut off = Table::empty();
-    off.add(Assign::new(0)?);
-    off.add(Assign::new(3)?);
-    Spec::new(2, on, off)
-}
 
 #[test]
 fn pairs_of_exclusive_or(rt: HostRuntime) -> Result<(), Fail> {

@@ -1,20 +1,10 @@
 //! Lattices of allowed literals.
-use cube_core::assign::Assign;
-use cube_core::spec::Spec;
-use cube_core::table::Table;
+use crate::functions::conjunction;
 use lattice_grid::columns::columns;
 use lattice_grid::control::Control;
 use lattice_grid::rails::Rails;
 use lattice_grid::start::{Start, pairs_with};
 use std::test::Fail;
-
-/// Two inputs at once.
-fn conjunction() -> Option<Spec> {
-    let mut on = Table::empty();
-    on.add(Assign::new(3)?);
-    let off = on.complement(2);
-    Spec::new(2, on, off)
-}
 
 #[test]
 fn which_are_allowed(rt: HostRuntime) -> Result<(), Fail> {
@@ -69,9 +59,10 @@ fn columns_of_all_literals(rt: HostRuntime) -> Result<(), Fail> {
     let spec = conjunction().ok_or("a function")?;
     assert!(rt; spec.on().first().is_some());
     assert!(rt; spec.off().first().is_some());
-    match pairs_with(rt.alloc(), &spec, Rails::all())? {
+    let rails = Rails::all();
+    match pairs_with(rt.alloc(), &spec, rails)? {
         Start::Grid(_) => {
-            let grid = columns(rt.alloc(), &spec, Rails::all())?;
+            let grid = columns(rt.alloc(), &spec, rails)?;
             assert_eq!(rt; grid.shape().rows(), 2);
             assert_eq!(rt; grid.shape().cols(), 1);
             assert_eq!(rt; grid.row(0), [Control::Plain(0)].as_slice());
