@@ -1,0 +1,4 @@
+pub mod TextLaws
+pub mod OriginLaws
+pub mod SectionLaws
+pub mod ShownLaws

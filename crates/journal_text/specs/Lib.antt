@@ -1,0 +1,11 @@
+pub mod Parts
+pub mod Text
+pub mod Proved
+pub mod Least
+pub mod Good
+pub mod Origin
+pub mod Kept
+pub mod Bounds
+pub mod Calls
+pub mod Laws
+pub mod Shown

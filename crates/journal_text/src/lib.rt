@@ -1,0 +1,27 @@
+//! The text of a journal: the questions that were asked, the steps that show their answers, and what is known of each output.
+#![tactic(auto)]
+
+ghost use Rattle.journal_text.specs.Laws.{BeginsJournal, AddsSection, AddsAnswer, EndsJournal};
+ghost use Rattle.journal_text.specs.Shown.{ExcludesBelow, ExcludesOnArray};
+
+pub mod fault;
+mod lines;
+pub mod section;
+pub mod target;
+#[cfg(test)]
+mod tests;
+pub mod writer;
+
+/// How what the calls write comes to the text of a journal.
+pub fn written_together()
+    ensures begins { BeginsJournal }
+    ensures section { AddsSection }
+    ensures answer { AddsAnswer }
+    ensures ends { EndsJournal }
+{}
+
+/// What refuted sections show of lattices.
+pub fn refuted_sections()
+    ensures below { ExcludesBelow }
+    ensures on_array { ExcludesOnArray }
+{}
