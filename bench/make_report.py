@@ -11,7 +11,7 @@ def pla(path: str) -> None:
 
 def report(path: str, name: str, blocks: int, row: str) -> None:
     with open(path, "w") as out:
-        out.write(f"lattice report 1\ninputs {name}\n")
+        out.write(f"lattice report 2\ninputs {name}\nrails 1048575\n")
         for block in range(blocks):
             output = min(block, 63)
             out.write(f"output {output} f{output} found 1024x1024\n")
