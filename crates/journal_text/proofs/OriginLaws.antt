@@ -277,3 +277,8 @@ pub question_origin : (front : List ℕ) (output : ℕ) (target : Target) (rest 
 question_origin front output target rest whole k =
     subst (λ (z : List ℕ). origin_of (Some ((front ++ z) ++ rest)) ≡ front ++ z) (asked_line output target)
     (origin-is front (asked output target) rest whole (Without-asked output target) refl k)
+
+-- what ends with a question's line is not empty
+pub some-question : (front : List ℕ) (output : ℕ) (target : Target) → front ++ question_text output target ≢ []
+unfolding question_text
+some-question front output target = some-append front (question_text output target) (λ e. cc e)

@@ -1,9 +1,10 @@
 -- What the calls of a writer and of a section say.
-use Rattle.std.specs.Prelude.{◌≡◌, ℕ, ◌*◌, ◌≤◌, List, ◌++◌, ⊤}
+use Rattle.std.specs.Prelude.{◌≡◌, ◌≢◌, ℕ, ◌*◌, ◌≤◌, List, [], ◌++◌, ⊤, All}
 use Rattle.std.specs.declared.option.Option.{Option}
 use Rattle.wire_io.specs.Causes.{Rose}
 use Rattle.wire_io.specs.Told.{Gains, GainsFront}
 use Rattle.lrat_replay.specs.declared.line.Step.{Step}
+use Rattle.journal_text.specs.Bounds.{IsWritten}
 use Rattle.journal_text.specs.declared.fault.JournalFault.{JournalFault}
 use Rattle.journal_text.specs.declared.fault.JournalFault.TheVariants.{Sink, NoMemory}
 use Rattle.journal_text.specs.declared.target.Close.{Close}
@@ -32,8 +33,18 @@ abbrev pub IsAskable : Target → Type 0
 IsAskable (Whole s) = s.rows * s.cols ≤ 32768
 IsAskable (Marked a) = ⊤
 
--- Behind the question's line stand the lines of steps of which this holds, and the closing line.
+-- Behind the question's line stand the lines of steps that can be written and of which this holds, and the closing line.
 pub record IsClosed (bytes origin : List ℕ) (close : Close) (Holds : List Step → Type 0) : Type 0 where
   pub steps : List Step
   pub text : bytes ≡ origin ++ (steps_text steps ++ close_text close)
+  pub written : All IsWritten steps
   pub holds : Holds steps
+  pub asked : origin ≢ []
+
+-- Behind the question's line stand the lines of steps that can be written; where a step failed, the rest of its line is missing.
+pub record IsSectionBegun (bytes origin : List ℕ) : Type 0 where
+  pub steps : List Step
+  pub written : All IsWritten steps
+  pub rest : List ℕ
+  pub text : bytes ++ rest ≡ origin ++ steps_text steps
+  pub asked : origin ≢ []

@@ -5,13 +5,13 @@ use Rattle.std.specs.Coded.{Coded, code_by, coded×, coded_ℕ, coded_bool}
 use Rattle.std.specs.FinSet as set
 use Rattle.lrat_replay.specs.Book.{Book, Accepts, last_id, start}
 use Rattle.lrat_replay.specs.Learned.{without_hints}
-use Rattle.lrat_replay.specs.Ledger.{IsAbove0}
 use Rattle.lrat_replay.specs.LratText.{step_text}
-use Rattle.lrat_replay.specs.StepRead.{IsCounted}
 use Rattle.lrat_replay.specs.Store.{coded_book}
 use Rattle.lrat_replay.specs.declared.line.LineKind.TheVariants.{Add}
 use Rattle.lrat_replay.specs.declared.line.Step.{Step}
+use Rattle.report_text.specs.Bounds.{AreRails}
 use Rattle.report_text.specs.declared.answer.Version.TheVariants.{Two}
+use Rattle.journal_text.specs.Bounds.{IsTarget, IsWritten, IsPart}
 use Rattle.journal_text.specs.Parts.{Part, Question, Answered}
 use Rattle.journal_text.specs.Text.{front_text, question_text, steps_text}
 use Rattle.journal_text.specs.declared.target.Target.{Target}
@@ -47,14 +47,16 @@ steps_in (Answered block ∷ parts) = steps_in parts
 abbrev pub capped : ℕ → ℕ
 capped n = min n (2 ^ 64 - 1)
 
--- The bytes are the lines of some parts with so many step lines.
+-- The bytes are the lines of some parts, each within its bounds, with so many step lines.
 pub record SpellsParts (bytes : List ℕ) (steps : ℕ) : Type 0 where
   pub rails : ℕ
   pub parts : List Part
   pub text : bytes ≡ front_text Two rails parts
   pub count : steps ≡ capped (steps_in parts)
+  pub rails_are : AreRails Two rails
+  pub are : All (IsPart Two) parts
 
--- The bytes are the lines of some parts with so many step lines, and a question's line.
+-- The bytes are the lines of some parts with so many step lines, and a question's line, each within its bounds.
 pub record SpellsQuestion (bytes : List ℕ) (steps : ℕ) : Type 0 where
   pub rails : ℕ
   pub parts : List Part
@@ -62,20 +64,17 @@ pub record SpellsQuestion (bytes : List ℕ) (steps : ℕ) : Type 0 where
   pub target : Target
   pub text : bytes ≡ front_text Two rails parts ++ question_text output target
   pub count : steps ≡ capped (steps_in parts)
+  pub rails_are : AreRails Two rails
+  pub are : All (IsPart Two) parts
+  pub asked_output : output ≤ 63
+  pub asked : IsTarget target
 
--- An addition: its identifier and its variables are from 1 to 2,147,483,647, and its hints above 0.
-pub record IsAddition (s : Step) : Type 0 where
-  pub id : IsCounted s.id
-  pub variables : All (λ l. IsCounted l.var) s.clause
-  pub hints : All IsAbove0 s.hints
-
--- Each step is an addition, and accepted by its own hints after those before it; and without their hints they are the steps of the book.
+-- Each step is accepted by its own hints after those before it, and without their hints they are the steps of the book.
 pub record AreOf (book : Book) (steps : List Step) : Type 0 where
-  pub each : All IsAddition steps
   pub accepted : Accepts (start book.formula) (map Add steps)
   pub same : without_hints steps ≡ book.steps
 
--- The line of the last step is a front of what was to be written.
+-- Each step can be written; what stands of the last one's line is a front of it.
 pub record LastInPart (bytes start : List ℕ) (steps : List Step) : Type 0 where
   pub earlier : List Step
   pub last : Step
@@ -84,10 +83,11 @@ pub record LastInPart (bytes start : List ℕ) (steps : List Step) : Type 0 wher
   pub rest : List ℕ
   pub line : step_text last.id last.clause last.hints ≡ front ++ rest
   pub text : bytes ≡ start ++ (steps_text earlier ++ front)
+  pub written : All IsWritten steps
 
--- behind the question stand the lines of the steps; where a step failed, its line may be cut short
+-- behind the question stand the lines of the steps, each of which can be written; where a step failed, its line may be cut short
 abbrev pub HasLines : Bool → List ℕ → List ℕ → List Step → Type 0
-HasLines false bytes start steps = bytes ≡ start ++ steps_text steps
+HasLines false bytes start steps = (bytes ≡ start ++ steps_text steps) × All IsWritten steps
 HasLines true bytes start steps = LastInPart bytes start steps
 
 -- What a section's bytes spell: parts and a question, and the lines of the steps that were learned.
@@ -103,9 +103,10 @@ abbrev pub IsWriter : Option (List ℕ) → ℕ → Bool → Type 0
 IsWriter told steps true = ⊤
 IsWriter told steps false = IfSome told (λ bytes. SpellsParts bytes steps)
 
--- What is true of a section.
+-- What is true of a section: it has no more steps than its last identifier, which is at most 2,147,483,647.
 pub record IsSection (told : Option (List ℕ)) (book : Book) (broken : Bool) (before learned : ℕ) : Type 0 where
   pub count : learned ≡ length book.steps
   pub few : learned ≤ last_id book
+  pub counted : last_id book ≤ 2147483647
   pub whole : book.deleted ≡ set.empty
   pub spelled : IfSome told (λ bytes. SpellsSection bytes book broken before)

@@ -1,7 +1,7 @@
 //! The text of a journal: the questions that were asked, the steps that show their answers, and what is known of each output.
 #![tactic(auto)]
 
-ghost use Rattle.journal_text.specs.Laws.{BeginsJournal, AddsSection, AddsAnswer, EndsJournal};
+ghost use Rattle.journal_text.specs.Laws.{BeginsJournal, AddsSection, BeginsSection, AddsAnswer, JoinsParts, JoinsFront, EndsJournal};
 ghost use Rattle.journal_text.specs.Shown.{ExcludesBelow, ExcludesOnArray};
 
 pub mod fault;
@@ -16,7 +16,10 @@ pub mod writer;
 pub fn written_together()
     ensures begins { BeginsJournal }
     ensures section { AddsSection }
+    ensures begun { BeginsSection }
     ensures answer { AddsAnswer }
+    ensures parts { JoinsParts }
+    ensures front { JoinsFront }
     ensures ends { EndsJournal }
 {}
 

@@ -2,6 +2,7 @@
 ghost use Rattle.std.specs.Prelude.{◌≡◌, ◌++◌, OnOk, codes};
 ghost use Rattle.wire_io.specs.Causes.{HasCause};
 ghost use Rattle.wire_io.specs.Told.{Gains, GainsFront};
+ghost use Rattle.report_text.specs.Bounds.{AreRails};
 ghost use Rattle.report_text.specs.Cells.{size_text, array_text};
 ghost use Rattle.report_text.specs.Writing.{Puts};
 ghost use Rattle.report_text.specs.declared.answer.Version.TheVariants.{Two};
@@ -23,6 +24,7 @@ pub(crate) fn write_head<K: Sink>(sink: &mut K, rails: Rails) -> Result<(), Fail
     ensures ok { OnOk result (Gains (K.got sink.old) (K.got sink.new) (head_text Two rails)) }
     ensures front { GainsFront (K.got sink.old) (K.got sink.new) (head_text Two rails) }
     ensures cause { HasCause (K.faults sink.old) (K.faults sink.new) result }
+    ensures rails { AreRails Two rails }
 {
     let mut digits = Digits::new();
     let number = digits.format(rails.bits()).as_bytes();

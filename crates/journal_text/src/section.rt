@@ -1,5 +1,6 @@
 //! Sections are written while their steps are learned.
-ghost use Rattle.std.specs.Prelude.{◌≡◌, ℕ, ◌+◌, ◌≤◌, ◌⊎◌, Bool, true, false, List, [], All, length, map, None, OnOk, OnErr, IfOk, IfErr, IfSome};
+ghost use Rattle.std.specs.Prelude.{◌≡◌, ℕ, ◌+◌, ◌≤◌, ◌⊎◌, Bool, true, false, List, [], All, length, map, None, OnOk, OnErr, IfOk, IfErr, IfSome, FitsSigned};
+ghost use Rattle.std.specs.Int.{w32};
 ghost use Rattle.std.specs.FinSet as set;
 ghost use Rattle.clause_core.specs.Formula.{IsSatisfiedBy};
 ghost use Rattle.wire_io.specs.Causes.{Rose};
@@ -9,7 +10,8 @@ ghost use Rattle.lrat_replay.specs.Laws.{Refutes};
 ghost use Rattle.lrat_replay.specs.Learned.{SpentWritten};
 ghost use Rattle.lrat_replay.specs.New.{AreNew};
 ghost use Rattle.lrat_replay.specs.declared.line.LineKind.TheVariants.{Add};
-ghost use Rattle.journal_text.specs.Calls.{Wrote, WasCut, IsClosed};
+ghost use Rattle.journal_text.specs.Bounds.{IsClose};
+ghost use Rattle.journal_text.specs.Calls.{Wrote, WasCut, IsClosed, IsSectionBegun};
 ghost use Rattle.journal_text.specs.Kept.{SpellsQuestion, SpellsSection, AreOf, capped};
 ghost use Rattle.journal_text.specs.Origin.{origin_of};
 ghost use Rattle.journal_text.specs.Text.{close_text};
@@ -28,6 +30,15 @@ use lrat_replay::write::write_step;
 use std::marker::Model;
 use wire_io::fault::{Failed, Stopped};
 use wire_io::sink::Sink;
+
+/// The hints are numbers of their type.
+fn hint_bounds(hints: &[i32])
+    ensures { All (FitsSigned w32) hints.now }
+{
+    for hint in hints {
+        let _number = *hint;
+    }
+}
 
 /// A ledger that writes the line of each step as soon as replay accepts it.
 #[derive(Drop)]
@@ -59,6 +70,7 @@ impl<K: Sink> Section<K> {
         requires asked { IfSome (K.got sink) (λ bytes. SpellsQuestion bytes before) }
         ensures { result ≡ record { sink = sink; book = replay; broken = false; before = before } }
     {
+        let _clauses = replay.formula().count();
         Section {
             sink,
             replay,
@@ -75,17 +87,19 @@ impl<K: Sink> Section<K> {
         self.replay.reached()
     }
 
-    /// How many steps were learned.
+    /// How many steps were learned, at most 2,147,483,647.
     pub fn steps(&self) -> u32
         ensures count { result ≡ length self.now.book.steps }
+        ensures counted { result ≤ 2147483647 }
         ensures spelled { IfSome (K.got self.now.sink) (λ bytes. SpellsSection bytes self.now.book self.now.broken self.now.before) }
     {
         self.learned
     }
 
-    /// The sink as it is.
+    /// The sink as it is. What it got ends with the section, which is never closed.
     pub fn into_sink(self) -> K
-        ensures { result ≡ self.sink }
+        ensures same { result ≡ self.sink }
+        ensures begun { IfSome (K.got result) (λ bytes. IsSectionBegun bytes (origin_of (K.got self.sink))) }
     {
         let Section {
             sink,
@@ -100,6 +114,7 @@ impl<K: Sink> Section<K> {
     /// Writes the last line.
     fn close(self, close: Close) -> Result<(JournalWriter<K>, Replay), Stopped<Failed, K>>
         requires whole { self.broken ≡ false }
+        requires bounds { IsClose close }
         ensures ok { IfOk result (λ pair. Wrote (K.got self.sink) (K.got pair.0.sink) (K.faults self.sink) (K.faults pair.0.sink) (close_text close)) }
         ensures whole { IfOk result (λ pair. pair.0.failed ≡ false) }
         ensures steps { IfOk result (λ pair. pair.0.steps ≡ capped (self.before + length self.book.steps)) }
@@ -202,6 +217,7 @@ impl<K: Sink> Ledger for Section<K> {
     }
 
     fn learn(&mut self, id: u32, clause: &[Lit], hints: &[i32]) -> Result<(), LearnFault> {
+        hint_bounds(hints);
         if self.replay.step(id, clause, hints).is_err() {
             return Err(LearnFault::NoMemory);
         }

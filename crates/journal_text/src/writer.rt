@@ -6,7 +6,7 @@ ghost use Rattle.lrat_replay.specs.Book.{start};
 ghost use Rattle.report_text.specs.Bounds.{IsBlock};
 ghost use Rattle.report_text.specs.Report.{block_text, parts_of_block};
 ghost use Rattle.report_text.specs.declared.answer.Version.TheVariants.{Two};
-ghost use Rattle.journal_text.specs.Bounds.{MayStand};
+ghost use Rattle.journal_text.specs.Bounds.{IsTarget, MayStand};
 ghost use Rattle.journal_text.specs.Calls.{Wrote, WasCut, WasRefused, IsAskable};
 ghost use Rattle.journal_text.specs.Kept.{IsWriter};
 ghost use Rattle.journal_text.specs.Origin.{origin_of};
@@ -25,6 +25,21 @@ use std::alloc::Global;
 use std::marker::Model;
 use wire_io::fault::{Failed, Stopped};
 use wire_io::sink::Sink;
+
+/// A target that is askable is within its bounds, as its shape and its array are.
+fn target_bounds(target: &Target)
+    requires { IsAskable target.now }
+    ensures { IsTarget target.now }
+{
+    match target {
+        Target::Whole(shape) => {
+            let _rows = shape.rows();
+        }
+        Target::Marked(array) => {
+            let _shape = array.shape();
+        }
+    }
+}
 
 /// A sink to which a journal is written.
 #[derive(Drop)]
@@ -77,7 +92,8 @@ impl<K: Sink> JournalWriter<K> {
         }
     }
 
-    /// How many step lines its closed sections have, or the greatest `u64` where there are more.
+    /// How many step lines its closed sections have, or the greatest `u64` where there are more. Where no answer failed, what
+    /// the sink got are the lines of parts within their bounds.
     pub fn steps(&self) -> u64
         ensures value { result ≡ self.now.steps }
         ensures spelled { IsWriter (K.got self.now.sink) result self.now.failed }
@@ -121,6 +137,7 @@ impl<K: Sink> JournalWriter<K> {
             steps,
             failed: _,
         } = self;
+        target_bounds(target);
         let Ok(replay) = Replay::new(alloc, formula) else {
             return Err(Stopped {
                 fault: JournalFault::NoMemory,

@@ -11,7 +11,7 @@ after-requires g c =
     let whole : c.self.inside.broken ≡ false = ap (λ s. s.broken) c.self.view_is ∙ c.requires.whole in
     let steps : c.saturating_add-steps.result ≡ capped (c.self.inside.before + c.self.inside.learned) = search rules in
     close_parts (g.K.Sink.got c.self.inside.sink) (g.K.Sink.got c.write_close.new.sink) c.self.inside.replay c.self.inside.broken c.self.inside.before c.self.inside.learned c.saturating_add-steps.result c.args.close
-    c.self.invariant whole steps c.in_default.ensures.ok
+    c.self.invariant whole c.requires.bounds steps c.in_default.ensures.ok
 
 pub returns-clause-closed : goal.returns-clause-closed
 returns-clause-closed g c =

@@ -7,4 +7,4 @@ use Rattle.journal_text.proofs.writer.JournalWriter.begin.Goals as goal
 
 pub invariant_of-result : goal.invariant_of-result
 invariant_of-result g c =
-    begun (g.K.Sink.got c.args.sink) (g.K.Sink.got c.write_head.new.sink) c.args.rails (head_text Two c.args.rails) (sym (front-none Two c.args.rails)) c.requires.empty c.in_default.ensures.ok
+    begun (g.K.Sink.got c.args.sink) (g.K.Sink.got c.write_head.new.sink) c.args.rails (head_text Two c.args.rails) c.write_head.ensures.rails (sym (front-none Two c.args.rails)) c.requires.empty c.in_default.ensures.ok
