@@ -11,7 +11,7 @@ use Rattle.std.proofs.lemmas.List.{append-nil}
 use Rattle.std.proofs.lemmas.List.Elements.{Contains-append_right, All-nil, All-push, All-weaker}
 use Rattle.std.proofs.lemmas.List.Concat.{flat_map-append}
 use Rattle.clause_core.specs.Literal.{Literal}
-use Rattle.clause_core.specs.Formula.{Formula, IsFormula, IsOver}
+use Rattle.clause_core.specs.Formula.{Formula, IsOver}
 use Rattle.wire_io.specs.Told.{Gains, GainsFront}
 use Rattle.lrat_replay.specs.Book.{Book, Numbered, Accepts, addition_fault, after_addition, after_lines, is_empty, last_id, last_of, some_empty, start}
 use Rattle.lrat_replay.specs.Laws.{Refutes}
@@ -380,20 +380,6 @@ asked_next a b steps output target few bounds h g =
       asked_output = few;
       asked = bounds;
     })
-
--- a section without steps
-spelled-none : (told : Option (List ℕ)) (book : Book) (before : ℕ) → book.steps ≡ [] → IfSome told (λ bytes. SpellsQuestion bytes before) → IfSome told (λ bytes. SpellsSection bytes book false before)
-spelled-none None book before none h = tt
-spelled-none (Some bytes) book before none h = record { start = bytes; question = h; steps = []; are = record { accepted = tt; same = sym none }; lines = (sym (append-nil bytes), All-nil IsWritten) }
-
-pub new_section : (told : Option (List ℕ)) (book : Book) (before : ℕ) → IsFormula book.formula → book.steps ≡ [] → book.deleted ≡ set.empty → IfSome told (λ bytes. SpellsQuestion bytes before) → IsSection told book false before 0
-new_section told book before formula none all h = record {
-  count = ap length (sym none);
-  few = omega arith;
-  counted = (let few = formula.few_clauses in subst (λ (steps : List Numbered). last_of (length book.formula.clauses) steps ≤ 2147483647) (sym none) (omega (arith, few)));
-  whole = all;
-  spelled = spelled-none told book before none h;
-}
 
 pub asked_origin : (told : Option (List ℕ)) (steps : ℕ) → IfSome told (λ bytes. SpellsQuestion bytes steps) → IfSome told (λ bytes. origin_of told ≡ bytes)
 asked_origin None steps h = tt

@@ -31,7 +31,7 @@ use std::marker::Model;
 use wire_io::fault::{Failed, Stopped};
 use wire_io::sink::Sink;
 
-/// The hints are numbers of their type.
+/// Each hint is a number of its type, as it is read.
 fn hint_bounds(hints: &[i32])
     ensures { All (FitsSigned w32) hints.now }
 {
@@ -70,6 +70,7 @@ impl<K: Sink> Section<K> {
         requires asked { IfSome (K.got sink) (λ bytes. SpellsQuestion bytes before) }
         ensures { result ≡ record { sink = sink; book = replay; broken = false; before = before } }
     {
+        // The number of clauses, which bounds the identifiers so far, is in the range of a formula's.
         let _clauses = replay.formula().count();
         Section {
             sink,

@@ -26,7 +26,7 @@ use std::marker::Model;
 use wire_io::fault::{Failed, Stopped};
 use wire_io::sink::Sink;
 
-/// A target that is askable is within its bounds, as its shape and its array are.
+/// A target that may be asked for is within its bounds, since its shape or its array is.
 fn target_bounds(target: &Target)
     requires { IsAskable target.now }
     ensures { IsTarget target.now }
@@ -92,8 +92,8 @@ impl<K: Sink> JournalWriter<K> {
         }
     }
 
-    /// How many step lines its closed sections have, or the greatest `u64` where there are more. Where no answer failed, what
-    /// the sink got are the lines of parts within their bounds.
+    /// How many step lines its closed sections have, or the greatest `u64` where there are more. Where no answer failed, the
+    /// sink got the lines of parts that are within their bounds.
     pub fn steps(&self) -> u64
         ensures value { result ≡ self.now.steps }
         ensures spelled { IsWriter (K.got self.now.sink) result self.now.failed }
