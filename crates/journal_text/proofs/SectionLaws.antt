@@ -287,32 +287,36 @@ close_closed (Some x) (Some y) book broken before learned close h whole g =
 
 -- ---- a section is given up
 
-begun-whole : (bytes : List ℕ) (book : Book) (before : ℕ) → SpellsSection bytes book false before → IsSectionBegun bytes (origin_of (Some bytes))
+begun-whole : (bytes : List ℕ) (book : Book) (before : ℕ) → SpellsSection bytes book false before → IsSectionBegun bytes (origin_of (Some bytes)) false
 begun-whole bytes book before h =
     let origin = section-origin bytes book before h in
     record {
       steps = h.steps;
       written = h.lines.1;
+      front = steps_text h.steps;
       rest = [];
-      text = append-nil bytes ∙ h.lines.0 ∙ ap (λ z. z ++ steps_text h.steps) (sym origin);
+      lines = sym (append-nil (steps_text h.steps));
+      text = h.lines.0 ∙ ap (λ z. z ++ steps_text h.steps) (sym origin);
+      whole = λ _. refl;
       asked = λ e. some-start h.start before h.question (sym origin ∙ e);
     }
 
-begun-cut : (bytes : List ℕ) (book : Book) (before : ℕ) → SpellsSection bytes book true before → IsSectionBegun bytes (origin_of (Some bytes))
+begun-cut : (bytes : List ℕ) (book : Book) (before : ℕ) → SpellsSection bytes book true before → IsSectionBegun bytes (origin_of (Some bytes)) true
 begun-cut bytes book before h =
     let origin = cut-origin bytes book before h in
     let l = h.lines in
-    let last = sym (text-more l.earlier l.last ∙ ap (λ z. steps_text l.earlier ++ z) l.line) in
     record {
       steps = h.steps;
       written = l.written;
+      front = steps_text l.earlier ++ l.front;
       rest = l.rest;
-      text = ap (λ z. z ++ l.rest) l.text ∙ append_assoc h.start (steps_text l.earlier ++ l.front) l.rest ∙ ap (λ z. h.start ++ z) (append_assoc (steps_text l.earlier) l.front l.rest ∙ last ∙ ap steps_text (sym l.all))
-          ∙ ap (λ z. z ++ steps_text h.steps) (sym origin);
+      lines = ap steps_text l.all ∙ text-more l.earlier l.last ∙ ap (λ z. steps_text l.earlier ++ z) l.line ∙ sym (append_assoc (steps_text l.earlier) l.front l.rest);
+      text = l.text ∙ ap (λ z. z ++ (steps_text l.earlier ++ l.front)) (sym origin);
+      whole = λ e. absurd (false≢true (sym e));
       asked = λ e. some-start h.start before h.question (sym origin ∙ e);
     }
 
-pub section_begun : (told : Option (List ℕ)) (book : Book) (broken : Bool) (before : ℕ) → IfSome told (λ bytes. SpellsSection bytes book broken before) → IfSome told (λ bytes. IsSectionBegun bytes (origin_of told))
+pub section_begun : (told : Option (List ℕ)) (book : Book) (broken : Bool) (before : ℕ) → IfSome told (λ bytes. SpellsSection bytes book broken before) → IfSome told (λ bytes. IsSectionBegun bytes (origin_of told) broken)
 section_begun None book broken before h = tt
 section_begun (Some bytes) book true before h = begun-cut bytes book before h
 section_begun (Some bytes) book false before h = begun-whole bytes book before h

@@ -50,10 +50,11 @@ adds_section version rails parts section bytes origin e text =
     front-section version rails parts section bytes (text ∙ ap (λ z. z ++ (steps_text section.steps ++ close_text section.close)) e)
 
 pub begins_section : BeginsSection
-begins_section version rails parts section bytes rest origin e text = (
+begins_section version rails parts section bytes front rest origin e lines text = (
   rest ++ close_text section.close,
   adds_section version rails parts section (bytes ++ (rest ++ close_text section.close)) origin e
-      (sym (append_assoc bytes rest (close_text section.close)) ∙ ap (λ z. z ++ close_text section.close) text ∙ append_assoc origin (steps_text section.steps) (close_text section.close)),
+      (ap (λ z. z ++ (rest ++ close_text section.close)) text ∙ append_assoc origin front (rest ++ close_text section.close)
+      ∙ ap (λ z. origin ++ z) (sym (append_assoc front rest (close_text section.close)) ∙ ap (λ z. z ++ close_text section.close) (sym lines))),
 )
 
 pub adds_answer : AddsAnswer

@@ -1,5 +1,5 @@
 -- What the calls of a writer and of a section say.
-use Rattle.std.specs.Prelude.{◌≡◌, ◌≢◌, ℕ, ◌*◌, ◌≤◌, List, [], ◌++◌, ⊤, All}
+use Rattle.std.specs.Prelude.{◌≡◌, ◌≢◌, ℕ, ◌*◌, ◌≤◌, List, [], ◌++◌, ⊤, All, Bool, false}
 use Rattle.std.specs.declared.option.Option.{Option}
 use Rattle.wire_io.specs.Causes.{Rose}
 use Rattle.wire_io.specs.Told.{Gains, GainsFront}
@@ -41,10 +41,13 @@ pub record IsClosed (bytes origin : List ℕ) (close : Close) (Holds : List Step
   pub holds : Holds steps
   pub asked : origin ≢ []
 
--- Behind the question's line stand the lines of steps that can be written; where a step failed, the rest of its line is missing.
-pub record IsSectionBegun (bytes origin : List ℕ) : Type 0 where
+-- Behind the question's line stand the lines of steps that can be written; where a step failed, the rest of the last line is missing.
+pub record IsSectionBegun (bytes origin : List ℕ) (broken : Bool) : Type 0 where
   pub steps : List Step
   pub written : All IsWritten steps
+  pub front : List ℕ
   pub rest : List ℕ
-  pub text : bytes ++ rest ≡ origin ++ steps_text steps
+  pub lines : steps_text steps ≡ front ++ rest
+  pub text : bytes ≡ origin ++ front
+  pub whole : broken ≡ false → rest ≡ []
   pub asked : origin ≢ []

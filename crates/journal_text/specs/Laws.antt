@@ -18,8 +18,8 @@ AddsSection =
 -- a section that is begun behind parts and never closed is a front of the parts with it, however it would close
 abbrev pub BeginsSection : Type 0
 BeginsSection =
-    (version : Version) (rails : ℕ) (parts : List Part) (section : Section) (bytes rest origin : List ℕ) → origin ≡ front_text version rails parts ++ question_text section.output section.target
-    → bytes ++ rest ≡ origin ++ steps_text section.steps → (more : List ℕ) × (bytes ++ more ≡ front_text version rails (parts ++ Question section ∷ []))
+    (version : Version) (rails : ℕ) (parts : List Part) (section : Section) (bytes front rest origin : List ℕ) → origin ≡ front_text version rails parts ++ question_text section.output section.target
+    → steps_text section.steps ≡ front ++ rest → bytes ≡ origin ++ front → (more : List ℕ) × (bytes ++ more ≡ front_text version rails (parts ++ Question section ∷ []))
 
 -- an answer behind parts is one more part
 abbrev pub AddsAnswer : Type 0

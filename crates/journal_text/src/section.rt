@@ -93,6 +93,7 @@ impl<K: Sink> Section<K> {
         ensures count { result ≡ length self.now.book.steps }
         ensures counted { result ≤ 2147483647 }
         ensures spelled { IfSome (K.got self.now.sink) (λ bytes. SpellsSection bytes self.now.book self.now.broken self.now.before) }
+        ensures begun { IfSome (K.got self.now.sink) (λ bytes. IsSectionBegun bytes (origin_of (K.got self.now.sink)) self.now.broken) }
     {
         self.learned
     }
@@ -100,7 +101,7 @@ impl<K: Sink> Section<K> {
     /// The sink as it is. What it got ends with the section, which is never closed.
     pub fn into_sink(self) -> K
         ensures same { result ≡ self.sink }
-        ensures begun { IfSome (K.got result) (λ bytes. IsSectionBegun bytes (origin_of (K.got self.sink))) }
+        ensures begun { IfSome (K.got result) (λ bytes. IsSectionBegun bytes (origin_of (K.got self.sink)) self.broken) }
     {
         let Section {
             sink,

@@ -1,0 +1,12 @@
+use Rattle.std.proofs.Common.{subst}
+use Rattle.std.specs.Prelude.{IfSome}
+use Rattle.journal_text.specs.Calls.{IsSectionBegun}
+use Rattle.journal_text.specs.Kept.{Learning}
+use Rattle.journal_text.specs.Origin.{origin_of}
+use Rattle.journal_text.proofs.SectionLaws.{section_begun}
+use Rattle.journal_text.proofs.section.Section.steps.Goals as goal
+
+pub returns-clause-begun : goal.returns-clause-begun
+returns-clause-begun g c =
+    subst (λ (z : Learning g.row.K.Denot). IfSome (g.K.Sink.got z.sink) (λ bytes. IsSectionBegun bytes (origin_of (g.K.Sink.got z.sink)) z.broken)) c.self.view_is
+    (section_begun (g.K.Sink.got c.self.inside.sink) c.self.inside.replay c.self.inside.broken c.self.inside.before c.self.invariant.spelled)
