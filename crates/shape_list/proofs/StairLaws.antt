@@ -1,5 +1,5 @@
 -- The largest shapes of an area, one after another.
-use Rattle.std.proofs.Common.{◌≡◌, ℕ, ◌+◌, ◌-◌, ◌*◌, ◌/◌, ◌≤◌, ◌<◌, ◌↔◌, inl, inr, List, [], ◌∷◌, ◌++◌, length, get_or, sym, ap, ◌∙◌, subst, arith, length-append}
+use Rattle.std.proofs.Common.{◌≡◌, ℕ, ◌+◌, ◌-◌, ◌*◌, ◌/◌, ◌≤◌, ◌<◌, ◌↔◌, inl, inr, List, [], ◌∷◌, ◌++◌, length, get_or, refl, sym, ap, ◌∙◌, subst, arith, length-append}
 use Rattle.std.specs.List.{Contains}
 use Rattle.std.proofs.Math.Nat.{div-mul-le_self, mul-div-le}
 use Rattle.std.proofs.lemmas.Bool.{cases_lt}
@@ -139,3 +139,20 @@ stair_whole area rows shapes past h = record {
   );
   rises = h.rises;
 }
+
+-- each shape of at most the area fits inside a step
+step_around : (area : ℕ) (s : Size) → area ≤ 1048576 → IsSize s → area_of s ≤ area → (t : Size) × IsStep area t × FitsInside s t
+step_around area s few kept small =
+    let rows_few = rows_within s kept in
+    let t : Size = record { rows = area / (area / s.rows); cols = area / s.rows } in
+    let within : s.rows ≤ area = omega (arith, rows_few, small) in (
+      t,
+      step_is area s.rows t kept.some_rows within few refl refl,
+      record { rows = (next_is area s.rows t kept.some_rows within refl refl).from; cols = few_cols area s.rows s kept.some_rows small (omega arith) },
+    )
+
+pub stair_covers : (area : ℕ) (shapes : List Size) → area ≤ 1048576 → IsStair area shapes → IsCoveredBelow shapes (area + 1)
+stair_covers area shapes few stair s kept small =
+    let t = step_around area s few kept (omega (arith, small)) in
+    let c = (stair.steps t.0).1 t.1 in
+    (c.0, t.0, c.1, c.2, t.2)

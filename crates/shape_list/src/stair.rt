@@ -1,7 +1,7 @@
 //! The largest shapes of an area.
 ghost use Rattle.std.specs.Prelude.{◌≡◌, ℕ, ◌+◌, ◌<◌, ◌≤◌, IfOk};
 ghost use Rattle.lattice_grid.specs.Rectangle.{Size, IsSize, FitsInside};
-ghost use Rattle.shape_list.specs.Shapes.{area_of, IsStep, IsStair};
+ghost use Rattle.shape_list.specs.Shapes.{area_of, IsStep, IsStair, IsCoveredBelow};
 
 use lattice_grid::shape::Shape;
 use std::alloc::Global;
@@ -20,11 +20,13 @@ pub(crate) fn step_from(area: u32, rows: u32) -> Shape
     Shape::new(area / cols, cols).unwrap()
 }
 
-/// The shapes of at most this area, which is from 1 to 1,048,576, that fit inside no other such shape, by rising rows.
+/// The shapes of at most this area, which is from 1 to 1,048,576, that fit inside no other such shape, by rising rows. Each
+/// shape of at most this area fits inside one of them.
 pub fn stair(alloc: Global, area: u32) -> Result<Vec<Shape>, NoMemory>
     requires some { 1 ≤ area }
     requires few { area ≤ 1048576 }
-    ensures { IfOk result (λ shapes. IsStair area shapes.items) }
+    ensures steps { IfOk result (λ shapes. IsStair area shapes.items) }
+    ensures covers { IfOk result (λ shapes. IsCoveredBelow shapes.items (area + 1)) }
 {
     let mut shapes = Vec::new(alloc);
     let mut rows = 1;
