@@ -1,0 +1,5 @@
+//! Heuristics that propose lattices and are not trusted.
+#![tactic(auto)]
+
+pub mod finder;
+pub mod improve;
