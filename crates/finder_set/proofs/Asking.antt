@@ -2,15 +2,15 @@
 use Rattle.std.specs.Prelude.{◌≡◌, ℕ, ◌+◌, ◌-◌, ◌^◌, ◌<◌, ◌≤◌, min, List, [], ◌∷◌, ◌++◌, length, map, take, drop, All, slice_index_or, slice_set}
 use Rattle.std.specs.List.{remove}
 use Rattle.std.specs.List.Sorted.{IsStrictlyIncreasing}
-use Rattle.std.proofs.Common.{sym, ◌∙◌, ap, subst, refl, suc, arith, add-zero, add-one, length-append, length-drop}
-use Rattle.std.proofs.lemmas.Grind.{common_steps}
+use Rattle.std.proofs.Common.{sym, ◌∙◌, ap, subst, suc, arith, add-zero, add-one, length-append, length-drop}
 use Rattle.std.proofs.lemmas.List.{take_more_set, take-set, take_all, drop-set-lt, get_or-drop, get_or-map, drop-drop, map-append, length-map, length-set, length-take-le}
 use Rattle.std.proofs.Math.Seq.{take-append_seam, drop-append_seam}
 use Rattle.std.proofs.lemmas.List.Elements.{All-push, All-weaker, All-map}
 use Rattle.cube_core.specs.Function.{Function}
 use Rattle.lattice_grid.specs.Lattice.{Lattice}
 use Rattle.finder_set.specs.declared.improve.Dropped.{Dropped}
-use Rattle.finder_set.specs.Finders.{AreDropped, IsWrongProposal, AreAsked}
+use Rattle.finder_set.proofs.Ordering.{InOrder, InOrder-stays, InOrder-drops, InOrder-ends, rising-push}
+use Rattle.finder_set.specs.Finders.{places_of, AreDropped, IsWrongProposal, AreAsked}
 use Rattle.wire_io.specs.Causes.{Rose}
 
 -- The finders before a place of the old list were asked: those that stay stand at the front of the new one, the others were dropped; the later ones stand as they did.
@@ -20,11 +20,8 @@ pub record IsAsking {F : Type 0} (begun left : F → ℕ) (f : Function) (bound 
   pub stay : length now + length dropped ≡ length old
   pub later : drop asked now ≡ drop place old
   pub spent : All (λ finder. left finder ≡ 0) (take asked now)
+  pub order : InOrder begun old now asked place dropped
   pub rose : (n : ℕ) → All (λ finder. n ≤ begun finder) old → All (λ finder. Rose n (begun finder)) (take asked now)
-
--- one more number, above the others
-rising-push : (ns : List ℕ) (n : ℕ) → IsStrictlyIncreasing ns → All (λ m. m < n) ns → IsStrictlyIncreasing (ns ++ n ∷ [])
-rising-push ns n up below k h = grind (arith, common_steps, up k, below k 0)
 
 -- what rose above a number rose above a smaller one
 rose-above : (limit n before now : ℕ) → n ≤ before → min (before + 1) limit ≤ now → min (n + 1) limit ≤ now
@@ -38,14 +35,18 @@ AreDropped-later f bound place dropped h = record {
   wrong = h.wrong;
 }
 
+-- no entry has the next place yet
+places-below : (f : Function) (bound place : ℕ) (dropped : List Dropped) → AreDropped f bound place dropped → All (λ n. n < place) (places_of dropped)
+places-below f bound place dropped h = All-map (λ n. n < place) (λ (e : Dropped). e.place) dropped h.places
+
 -- the next place, with an entry
 AreDropped-push : (f : Function) (bound place : ℕ) (dropped : List Dropped) (proposal : Lattice) → AreDropped f bound place dropped → IsWrongProposal f bound proposal
-  → AreDropped f bound (place + 1) (dropped ++ record { place = place; proposal = proposal } ∷ [])
+    → AreDropped f bound (place + 1) (dropped ++ record { place = place; proposal = proposal } ∷ [])
 AreDropped-push f bound place dropped proposal h wrong =
     let entry : Dropped = record { place = place; proposal = proposal } in
     let later : AreDropped f bound (place + 1) dropped = AreDropped-later f bound place dropped h in
-    let rising : IsStrictlyIncreasing (map (λ (e : Dropped). e.place) dropped ++ place ∷ []) =
-    rising-push (map (λ (e : Dropped). e.place) dropped) place h.rising (All-map (λ n. n < place) (λ (e : Dropped). e.place) dropped h.places) in
+    let rising : IsStrictlyIncreasing (places_of dropped ++ place ∷ []) =
+    rising-push (places_of dropped) place h.rising (places-below f bound place dropped h) in
     record {
       places = All-push (λ (e : Dropped). e.place < place + 1) dropped entry later.places (omega arith);
       rising = subst IsStrictlyIncreasing (sym (map-append (λ (e : Dropped). e.place) dropped (entry ∷ []))) rising;
@@ -64,8 +65,8 @@ next-later old now asked place same = sym (drop-drop 1 asked now) ∙ ap (drop 1
 
 -- The next finder was begun and asked until nothing was left: it stays.
 pub IsAsking-stays : {F : Type 0} (begun left : F → ℕ) (f : Function) (bound : ℕ) (old now : List F) (asked place : ℕ) (dropped : List Dropped) (x y : F)
-  → IsAsking begun left f bound old now asked place dropped → asked < length now → x ≡ slice_index_or now asked x → Rose (begun x) (begun y) → left y ≡ 0
-  → IsAsking begun left f bound old (slice_set now asked y) (asked + 1) (place + 1) dropped
+    → IsAsking begun left f bound old now asked place dropped → asked < length now → x ≡ slice_index_or now asked x → Rose (begun x) (begun y) → left y ≡ 0
+    → IsAsking begun left f bound old (slice_set now asked y) (asked + 1) (place + 1) dropped
 IsAsking-stays {F} begun left f bound old now asked place dropped x y h within is rose spent =
     let front : take (asked + 1) (slice_set now asked y) ≡ take asked now ++ y ∷ [] = take_more_set now asked y within in
     let inside : place < length old = omega (arith, h.counted, h.stay) in
@@ -74,11 +75,12 @@ IsAsking-stays {F} begun left f bound old now asked place dropped x y h within i
       entries = AreDropped-later f bound place dropped h.entries;
       counted = omega (arith, h.counted);
       stay = ap (λ n. n + length dropped) (length-set now asked y) ∙ h.stay;
+      order = InOrder-stays begun old now asked place dropped x y h.order (places-below f bound place dropped h.entries) within inside same rose;
       later = drop-set-lt (asked + 1) now asked y (omega arith) ∙ next-later old now asked place h.later;
       spent = subst (All (λ (finder : F). left finder ≡ 0)) (sym front) (All-push (λ (finder : F). left finder ≡ 0) (take asked now) y h.spent spent);
       rose = λ n least.
-        let below : n ≤ begun x = subst (λ (z : F). n ≤ begun z) same (least place x inside) in
-        subst (All (λ (finder : F). Rose n (begun finder))) (sym front)
+          let below : n ≤ begun x = subst (λ (z : F). n ≤ begun z) same (least place x inside) in
+          subst (All (λ (finder : F). Rose n (begun finder))) (sym front)
           (All-push (λ (finder : F). Rose n (begun finder)) (take asked now) y (h.rose n least) (rose-above (2 ^ 64 - 1) n (begun x) (begun y) below rose));
     }
 
@@ -92,15 +94,11 @@ All-from_map : {F : Type 0} (P : ℕ → Type 0) (b : F → ℕ) (xs : List F) �
 All-from_map P b xs all k d within =
     subst P (get_or-map b xs k d (b d) within) (all k (b d) (omega (arith, length-map xs b)))
 
--- a wrong proposal below a bound is one below a larger bound
-pub IsWrongProposal-wider : (f : Function) (bound larger : ℕ) (g : Lattice) → bound ≤ larger → IsWrongProposal f bound g → IsWrongProposal f larger g
-IsWrongProposal-wider f bound larger g within h = record { smaller = omega (arith, h.smaller); wrong = h.wrong }
-
 -- The next finder proposed a wrong lattice: it is dropped, with an entry.
 pub IsAsking-drops : {F : Type 0} (begun left : F → ℕ) (f : Function) (bound : ℕ) (old now new : List F) (asked place : ℕ) (dropped entries : List Dropped) (y : F) (proposal : Lattice)
-  → IsAsking begun left f bound old now asked place dropped → asked < length now → IsWrongProposal f bound proposal
-  → new ≡ remove (slice_set now asked y) asked → entries ≡ dropped ++ record { place = place; proposal = proposal } ∷ []
-  → IsAsking begun left f bound old new asked (place + 1) entries
+    → IsAsking begun left f bound old now asked place dropped → asked < length now → IsWrongProposal f bound proposal
+    → new ≡ remove (slice_set now asked y) asked → entries ≡ dropped ++ record { place = place; proposal = proposal } ∷ []
+    → IsAsking begun left f bound old new asked (place + 1) entries
 IsAsking-drops {F} begun left f bound old now new asked place dropped entries y proposal h within wrong new-is entries-is =
     let rest : List F = drop (asked + 1) now in
     let few : length (take asked now) ≡ asked = length-take-le asked now (omega arith) in
@@ -112,6 +110,7 @@ IsAsking-drops {F} begun left f bound old now new asked place dropped entries y 
       entries = AreDropped-push f bound place dropped proposal h.entries wrong;
       counted = omega (arith, h.counted, more);
       stay = omega (arith, h.stay, more, many);
+      order = InOrder-drops begun old now rest asked place dropped proposal h.order (omega arith);
       later = back ∙ next-later old now asked place h.later;
       spent = subst (All (λ (finder : F). left finder ≡ 0)) (sym front) h.spent;
       rose = λ n least. subst (All (λ (finder : F). Rose n (begun finder))) (sym front) (h.rose n least);
@@ -120,12 +119,13 @@ IsAsking-drops {F} begun left f bound old now new asked place dropped entries y 
 
 -- All finders were asked.
 pub IsAsking-ends : {F : Type 0} (begun left : F → ℕ) (f : Function) (bound : ℕ) (old now : List F) (asked place : ℕ) (dropped : List Dropped)
-  → IsAsking begun left f bound old now asked place dropped → length old ≤ place → place ≤ length old → AreAsked begun left f bound old now dropped
+    → IsAsking begun left f bound old now asked place dropped → length old ≤ place → place ≤ length old → AreAsked begun left f bound old now dropped
 IsAsking-ends {F} begun left f bound old now asked place dropped h below above =
     let all : take asked now ≡ now = take_all asked now (omega (arith, h.counted, h.stay)) in
     record {
       entries = subst (λ n. AreDropped f bound n dropped) (omega arith) h.entries;
       stay = h.stay;
+      order = InOrder-ends begun old now asked place dropped h.order (omega (arith, h.counted, h.stay)) (omega arith);
       spent = subst (All (λ (finder : F). left finder ≡ 0)) all h.spent;
       rose = λ least is_least. subst (All (λ (finder : F). Rose least (begun finder))) all (h.rose least (All-from_map (λ n. least ≤ n) begun old is_least.below));
     }

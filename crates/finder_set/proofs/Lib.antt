@@ -1,1 +1,3 @@
-pub mod Asking
+mod Asking
+mod Ordering
+pub mod Wider

@@ -1,4 +1,4 @@
-use Rattle.std.proofs.Common.{◌≡◌, ℕ, ◌+◌, ◌<◌, ◌≤◌}
+use Rattle.std.proofs.Common.{◌≡◌}
 use Rattle.finder_set.specs.Finders.{area_of, IsRightWithin}
 use Rattle.wire_io.specs.Causes.{Rose}
 use Rattle.finder_set.proofs.improve.ask.Given as goal

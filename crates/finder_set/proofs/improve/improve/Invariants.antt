@@ -1,4 +1,4 @@
-use Rattle.std.proofs.Common.{◌≡◌, ℕ}
+use Rattle.std.proofs.Common.{◌≡◌}
 use Rattle.finder_set.specs.Finders.{area_of, IsRightWithin}
 use Rattle.finder_set.proofs.Asking.{IsAsking}
 use Rattle.finder_set.proofs.improve.improve.Given as goal
