@@ -3,3 +3,5 @@
 
 pub mod finder;
 pub mod improve;
+#[cfg(test)]
+mod tests;
