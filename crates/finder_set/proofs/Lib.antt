@@ -1,0 +1,3 @@
+mod Asking
+mod Ordering
+pub mod Wider

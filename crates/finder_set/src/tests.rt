@@ -1,0 +1,166 @@
+ghost use Rattle.std.specs.Prelude.{◌≤◌};
+
+use crate::finder::Finder;
+use crate::improve::improve;
+use cube_core::assign::Assign;
+use cube_core::spec::Spec;
+use cube_core::table::Table;
+use lattice_grid::control::Control;
+use lattice_grid::grid::Grid;
+use lattice_grid::pairs::pairs;
+use lattice_grid::shape::Shape;
+use path_meaning::marks::Marks;
+use std::alloc::Global;
+use std::cell::Cell;
+use std::rc::Rc;
+use std::test::*;
+use wire_io::fault::NoMemory;
+
+/// Proposes the cells of a row as one column each time, and counts its calls: a hundred for each beginning, and one for each proposal.
+#[derive(Drop)]
+struct Column {
+    alloc: Global,
+    row: Grid,
+    tries: u32,
+    left: u32,
+    begun: u64,
+    calls: Rc<Cell<u32>>,
+    ghost few: { tries ≤ 1000 },
+}
+
+impl Finder for Column {
+    ghost left = { λ column. column.left };
+
+    ghost begun = { λ column. column.begun };
+
+    fn begin(&mut self, _spec: &Spec, _best: &Grid) -> Result<(), NoMemory> {
+        self.left = self.tries;
+        self.begun = self.begun.saturating_add(1);
+        self.calls.set(self.calls.get().wrapping_add(100));
+        Ok(())
+    }
+
+    fn left(&self) -> u32 {
+        self.left
+    }
+
+    fn propose(&mut self) -> Result<Option<Grid>, NoMemory> {
+        self.left -= 1;
+        self.calls.set(self.calls.get().wrapping_add(1));
+        column_of(self.alloc, &self.row)
+    }
+}
+
+/// The first row as one column.
+fn column_of(alloc: Global, row: &Grid) -> Result<Option<Grid>, NoMemory> {
+    let rows = row.shape().cols();
+    let cells = Vec::from_slice(alloc, row.row(0))?;
+    Ok(Shape::new(rows, 1).and_then(|shape| Grid::new(shape, cells)))
+}
+
+/// A row of these controls.
+fn row_of(controls: Vec<Control>) -> Option<Grid> {
+    if !controls.iter().all(|control| control.names_below(10)) {
+        return None;
+    }
+    let cols = u32::try_from(controls.len()).ok()?;
+    Grid::new(Shape::new(1, cols)?, controls)
+}
+
+/// 1 where the inputs differ.
+fn exclusive_or() -> Option<Spec> {
+    let mut on = Table::empty();
+    on.add(Assign::new(1)?);
+    on.add(Assign::new(2)?);
+    let off = on.complement(2);
+    Spec::new(2, on, off)
+}
+
+/// 1 where both inputs are.
+fn conjunction() -> Option<Spec> {
+    let mut on = Table::empty();
+    on.add(Assign::new(3)?);
+    let off = on.complement(2);
+    Spec::new(2, on, off)
+}
+
+/// A finder that proposes the cells of this row so often.
+fn proposing(
+    alloc: Global,
+    row: Grid,
+    tries: u32,
+    calls: &Rc<Cell<u32>>,
+) -> Result<Column, NoMemory>
+    requires { tries ≤ 1000 }
+{
+    Ok(Column {
+        alloc,
+        row,
+        tries,
+        left: 0,
+        begun: 0,
+        calls: Rc::clone(calls)?,
+    })
+}
+
+#[test]
+fn a_wrong_proposal_drops_its_finder(rt: HostRuntime) -> Result<(), Fail> {
+    let alloc = rt.alloc();
+    let spec = exclusive_or().ok_or("a function")?;
+    let best = pairs(alloc, &spec)?;
+    let mut marks = Marks::new(alloc, best.shape().area())?;
+    let calls = Rc::new(alloc, Cell::new(0))?;
+    let mut finders: Vec<Box<dyn Finder>> = Vec::new(alloc);
+    let one = row_of(vec![in alloc; Control::One; 1]?).ok_or("a row")?;
+    finders.push(Box::new(alloc, proposing(alloc, one, 3, &calls)?)?)?;
+    let improved = improve(alloc, &mut finders, &spec, best, &mut marks)?;
+    assert_eq!(rt; calls.get(), 101);
+    assert_eq!(rt; finders.len(), 0);
+    assert_eq!(rt; improved.dropped.len(), 1);
+    assert_eq!(rt; improved.dropped[0].place, 0);
+    assert_eq!(rt; improved.dropped[0].proposal.shape().area(), 1);
+    assert!(rt; improved.dropped[0].proposal.names_below(0));
+    assert_eq!(rt; improved.grid.shape().area(), 4);
+    Ok(())
+}
+
+#[test]
+fn a_right_smaller_proposal_is_taken(rt: HostRuntime) -> Result<(), Fail> {
+    let alloc = rt.alloc();
+    let spec = conjunction().ok_or("a function")?;
+    let best = pairs(alloc, &spec)?;
+    assert_eq!(rt; best.shape().area(), 3);
+    let mut marks = Marks::new(alloc, best.shape().area())?;
+    let calls = Rc::new(alloc, Cell::new(0))?;
+    let mut finders: Vec<Box<dyn Finder>> = Vec::new(alloc);
+    let both = row_of([Control::Plain(1), Control::Plain(0)].to_vec(alloc)?).ok_or("a row")?;
+    finders.push(Box::new(alloc, proposing(alloc, both, 3, &calls)?)?)?;
+    let improved = improve(alloc, &mut finders, &spec, best, &mut marks)?;
+    assert_eq!(rt; calls.get(), 103);
+    assert_eq!(rt; finders.len(), 1);
+    assert_eq!(rt; improved.dropped.len(), 0);
+    assert_eq!(rt; improved.grid.shape(), Shape::new(2, 1).ok_or("a shape")?);
+    Ok(())
+}
+
+#[test]
+fn a_finder_of_larger_lattices_stays(rt: HostRuntime) -> Result<(), Fail> {
+    let alloc = rt.alloc();
+    let spec = conjunction().ok_or("a function")?;
+    let best = pairs(alloc, &spec)?;
+    let mut marks = Marks::new(alloc, best.shape().area())?;
+    let calls = Rc::new(alloc, Cell::new(0))?;
+    let mut finders: Vec<Box<dyn Finder>> = Vec::new(alloc);
+    // The first one is dropped. The second one proposes nothing smaller, and stays.
+    let wrong = row_of(vec![in alloc; Control::Zero; 1]?).ok_or("a row")?;
+    finders.push(Box::new(alloc, proposing(alloc, wrong, 1, &calls)?)?)?;
+    let large = row_of(vec![in alloc; Control::One; 4]?).ok_or("a row")?;
+    finders.push(Box::new(alloc, proposing(alloc, large, 2, &calls)?)?)?;
+    let improved = improve(alloc, &mut finders, &spec, best, &mut marks)?;
+    assert_eq!(rt; calls.get(), 203);
+    assert_eq!(rt; finders.len(), 1);
+    assert_eq!(rt; finders[0].left(), 0);
+    assert_eq!(rt; improved.dropped.len(), 1);
+    assert_eq!(rt; improved.grid.shape().area(), 3);
+    Ok(())
+}
