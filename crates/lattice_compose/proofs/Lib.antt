@@ -1,0 +1,6 @@
+pub mod Lines
+pub mod Parts
+pub mod CellLaws
+pub mod EitherLaws
+pub mod BothLaws
+pub mod WithoutLaws

@@ -1,0 +1,4 @@
+pub mod Both
+pub mod Either
+pub mod Pictures
+pub mod Without
