@@ -1,0 +1,18 @@
+use Rattle.std.proofs.Common.{refl}
+use Rattle.journal_text.specs.declared.target.Close.TheVariants.{Satisfied}
+use Rattle.area_search.proofs.Closing.{chooses_so}
+use Rattle.area_search.proofs.Sections.{stopped_cut, stopped_wanting}
+use Rattle.area_search.proofs.question.close_satisfied.Goals as goal
+
+pub decode-requires-clause-chosen : goal.decode-requires-clause-chosen
+decode-requires-clause-chosen g c =
+    chooses_so c.read.ensures.chooses c.args.spec.now c.args.rails c.inputs.result c.args.shape c.args.section.book.formula c.args.valuation.now c.requires.question c.inputs.ensures.same c.requires.formula c.requires.satisfies
+
+pub returns-in_default-clause-stopped : goal.returns-in_default-clause-stopped
+returns-in_default-clause-stopped g c =
+    stopped_wanting g.K.Sink.got g.K.Sink.faults c.args.section c.args.section c.into_sink.result c.out_of_memory.result.held c.out_of_memory.result.fault c.out_of_memory.ensures.fault refl c.out_of_memory.ensures.held c.into_sink.ensures.same
+    c.into_sink.ensures.begun
+
+pub returns-in-Err-clause-stopped : goal.returns-in-Err-clause-stopped
+returns-in-Err-clause-stopped g c =
+    stopped_cut g.K.Sink.got g.K.Sink.faults c.args.section c.in-Err.stopped.held c.sink_failed.result.held c.sink_failed.result.fault Satisfied tt c.requires.unbroken c.steps-steps.ensures.begun c.sink_failed.ensures.held c.in-Err.ensures.cut

@@ -1,0 +1,4 @@
+pub mod Answer
+pub mod Asked
+pub mod Progress
+pub mod Searched
