@@ -97,7 +97,7 @@ chosen-slices how output k names keys specs items is names_are specs_are same =
     ∙ ap (λ o. blocks_text Two (chosen o (blocks_by how 0 (map bytes_of keys) items))) (sym is)
 
 -- the names of a PLA's inputs are those of a report
-names_are : (names : List Name) → All IsName (map bytes_of names)
+pub names_are : (names : List Name) → All IsName (map bytes_of names)
 names_are [] = All-nil IsName
 names_are (name ∷ names) = All-cons IsName (bytes_of name) (map bytes_of names) name.named (names_are names)
 

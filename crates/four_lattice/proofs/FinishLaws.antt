@@ -93,8 +93,8 @@ module _ (J : Judgement → Type 0) (u : Uses) (most : ℕ) (pla side out : Chan
     ends = record {
       task = task;
       accepted = accepted;
-      written = record { out = text; journal = []; undecided = false };
-      does = does (record { out = text; journal = []; undecided = false }) (record { out = refl; journal = refl; undecided = refl });
+      written = record { out = text; journal = Some []; undecided = false };
+      does = does (record { out = text; journal = Some []; undecided = false }) (record { out = refl; journal = refl; undecided = refl });
       decided = refl;
       out = gained;
       journal = Gains-none journal.told;
@@ -103,22 +103,22 @@ module _ (J : Judgement → Type 0) (u : Uses) (most : ℕ) (pla side out : Chan
     later = later;
   }
 
-  began : ((front : List ℕ) → SaysFront text front [] → Begins task front []) → GainsFront out.old.told out.new.told text → Began J (quiet pla side out journal)
+  began : ((front : List ℕ) → SaysFront text front (Some []) → Begins task front (Some [])) → GainsFront out.old.told out.new.told text → Began J (quiet pla side out journal)
   began begins gained = record {
     task = task;
     accepted = accepted;
     out = gained.front;
-    journal = [];
+    journal = Some [];
     begins = begins gained.front (record { front = (gained.rest, gained.whole); none = refl });
     out_gained = gained.gained;
     journal_gained = Gains-none journal.told;
   }
 
-  pub quiet_fault : ((front : List ℕ) → SaysFront text front [] → Begins task front []) → Failed out → GainsFront out.old.told out.new.told text
+  pub quiet_fault : ((front : List ℕ) → SaysFront text front (Some []) → Begins task front (Some [])) → Failed out → GainsFront out.old.told out.new.told text
       → Finishes J u most WriteFault (quiet pla side out journal)
   quiet_fault begins failed gained = record { ends = (inl failed, began begins gained); read = spent; later = later }
 
-  pub work_stops : ((front : List ℕ) → SaysFront text front [] → Begins task front []) → LosesUpTo pla.old.told pla.new.told most → LosesUpTo side.old.told side.new.told most_side_bytes
+  pub work_stops : ((front : List ℕ) → SaysFront text front (Some []) → Begins task front (Some [])) → LosesUpTo pla.old.told pla.new.told most → LosesUpTo side.old.told side.new.told most_side_bytes
       → GainsFront out.old.told out.new.told text → (fault : WorkFault) → IsWriteCause out.old.faults out.new.faults fault
       → Finishes J u most (ending_of_fault fault) (quiet pla side out journal)
   work_stops begins first second gained work.Write cause = quiet_fault begins cause gained

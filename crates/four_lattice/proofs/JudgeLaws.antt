@@ -20,7 +20,7 @@ use Rattle.report_text.specs.Reading.{Gives, IsRefused}
 use Rattle.report_text.specs.Report.{ReportParts}
 use Rattle.report_text.proofs.AnswerLaws.{one_answer}
 use Rattle.four_lattice.specs.Check.{IsAccepted, adds_empty, end_line}
-use Rattle.four_lattice.specs.Judge.{Texts, Task, Judgement, Refused, Accepted, Lattices, Encoding, Realised, Refuted, Stage, Last, TextRefuses, as_pla, as_cnf, IsCnfRefused, IsLratRefused, IsReportRefused, LratRefuses, LratGives, ReportRefuses, ReportGives, LacksOutput, LacksFunction, Denies, LinesStop, LinesRefuse, LatticesCome, EncodingComes, VerifyComes, CheckComes, JobComes, Comes}
+use Rattle.four_lattice.specs.Judge.{Texts, Task, Judgement, Refused, Accepted, Lattices, Encoding, Realised, Refuted, Minima, Stage, Last, TextRefuses, as_pla, as_cnf, IsCnfRefused, IsLratRefused, IsReportRefused, LratRefuses, LratGives, ReportRefuses, ReportGives, LacksOutput, LacksFunction, Denies, LinesStop, LinesRefuse, LatticesCome, EncodingComes, VerifyComes, CheckComes, SynthComes, JobComes, Comes}
 use Rattle.four_lattice.specs.Laws.{IsOneJudgement}
 use Rattle.four_lattice.specs.Lattices.{IsThere}
 use Rattle.four_lattice.specs.Verified.{IsVerified}
@@ -191,6 +191,12 @@ module _ (Of : Option (List ℕ) → (List ℕ → Type 0) → Type 0) (both : T
       pla_one x.pla (λ parts. Last (LacksOutput output parts) (IsThere output parts.outputs) (Lattices how output parts)) (λ parts. Last (LacksOutput output parts) (IsThere output parts.outputs) (Lattices how output parts))
       (λ parts. last_one (LacksOutput output parts) (LacksOutput output parts) (IsThere output parts.outputs) (Lattices how output parts) (λ a b h k. h.1 ∙ sym k.1) (λ a h k. h.0 k) (λ a h k. h.0 k))
 
+  synth_one : (rails budget : ℕ) (output : Option ℕ) (x : Texts) (i j : Judgement) → SynthComes IsSomeAnd rails budget output x i → SynthComes Of rails budget output x j → i ≡ j
+  synth_one rails budget output x =
+      let next = λ (parts : Parts). Last (LacksOutput output parts) (IsThere output parts.outputs) (Minima rails budget output parts) in
+      pla_one x.pla next next
+      (λ parts. last_one (LacksOutput output parts) (LacksOutput output parts) (IsThere output parts.outputs) (Minima rails budget output parts) (λ a b h k. h.1 ∙ sym k.1) (λ a h k. h.0 k) (λ a h k. h.0 k))
+
   one_gone : (o : Option Function) (f : Function) → o ≡ None → o ≡ Some f → ⊥
   one_gone o f p q = cc
 
@@ -228,6 +234,7 @@ module _ (Of : Option (List ℕ) → (List ℕ → Type 0) → Type 0) (both : T
   job_one (jobs.Cnf output size) x i j h k = encoding_one output size x i j h k
   job_one jobs.Verify x i j h k = verify_one x i j h k
   job_one jobs.Check x i j h k = check_one x i j h k
+  job_one (jobs.Synth conflicts output rails) x i j h k = synth_one rails conflicts output x i j h k
 
   -- words and texts
   one_of : (asked : Option Job) (x : Texts) (i j : Judgement) → Comes IsSomeAnd asked x i → Comes Of asked x j → i ≡ j

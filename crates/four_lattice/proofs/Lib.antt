@@ -13,3 +13,6 @@ pub mod FinishLaws
 pub mod JudgeLaws
 pub mod SettledLaws
 pub mod CommandLaws
+pub mod SynthLists
+pub mod SynthLaws
+pub mod SynthFinish

@@ -27,7 +27,7 @@ use Rattle.report_text.specs.declared.answer.Version.{Version}
 use Rattle.report_text.specs.declared.answer.Version.TheVariants.{One, Two}
 use Rattle.report_text.specs.Form.{lattice_of}
 use Rattle.report_text.specs.Report.{BlockParts, ReportParts, parts_of_block, lines_in}
-use Rattle.four_lattice.specs.Verified.{Basis, basis_of, array_in, least_output, IsOf, IsRight, AreRight, first_line, line_after, Shows, IsLatticeRefused, IsBlockRefused, HasRefusedBlock, IsVerified, IsDenied}
+use Rattle.four_lattice.specs.Verified.{Basis, basis_of, array_in, least_output, IsOf, IsRight, AreRight, first_line, line_after, IsLatticeRefused, IsBlockRefused, HasRefusedBlock, IsVerified, IsDenied}
 use Rattle.four_lattice.specs.declared.verify.VerifyRefusal.{VerifyRefusal}
 use Rattle.four_lattice.specs.declared.verify.VerifyRefusal.TheVariants.{Inputs, Output, Literal, Wrong, NoMemory}
 

@@ -1,8 +1,8 @@
 -- Devices before and after a run, and what reading a text comes to.
-use Rattle.std.specs.Prelude.{◌≡◌, ◌⊎◌, ℕ, ◌+◌, List, IfSome}
+use Rattle.std.specs.Prelude.{◌≡◌, ◌⊎◌, ℕ, ◌+◌, List, None, Some, IfSome}
 use Rattle.std.specs.declared.option.Option.{Option}
 use Rattle.wire_io.specs.Causes.{Device, Rose}
-use Rattle.wire_io.specs.Told.{IsSpent, LosesCount, LosesUpTo}
+use Rattle.wire_io.specs.Told.{Gains, IsSpent, LosesCount, LosesUpTo}
 use Rattle.wire_io.specs.declared.fault.ReadFault.{ReadFault}
 use Rattle.wire_io.specs.declared.fault.ReadFault.TheVariants as read
 use Rattle.four_lattice.specs.declared.ending.Refusal.{Refusal}
@@ -21,6 +21,11 @@ change told faults told' faults' = record { old = record { told = told; faults =
 -- a device that is not called
 abbrev pub still : Device → Change
 still device = record { old = device; new = device }
+
+-- The sink gained these bytes; or none are named, and it does not tell.
+abbrev pub GainsTold : Option (List ℕ) → Option (List ℕ) → Option (List ℕ) → Type 0
+GainsTold old new None = new ≡ None
+GainsTold old new (Some bytes) = Gains old new bytes
 
 -- The count of a device rose.
 abbrev pub Failed : Change → Type 0

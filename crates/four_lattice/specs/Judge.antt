@@ -42,6 +42,7 @@ pub data Task : Type 0 where
   Encoding : Size → Function → Task
   Realised : ReportParts → Task
   Refuted : Task
+  Minima : (rails budget : ℕ) → Option ℕ → Parts → Task
 
 pub data Judgement : Type 0 where
   Refused : Refusal → Judgement
@@ -156,6 +157,12 @@ CheckComes Of x =
     Stage (List Line) (LratRefuses Of x) (LratGives Of x) (λ lines.
     Last (LinesRefuse Of x formula lines) (IsAccepted formula lines × (adds_empty formula lines ≡ true)) Refuted))
 
+-- Lattices of least area over rails of the chosen outputs of a PLA, with at most so many conflicts for a question.
+abbrev pub SynthComes : OfTold → ℕ → ℕ → Option ℕ → Texts → Judgement → Type 0
+SynthComes Of rails budget output x =
+    Stage Parts (PlaRefuses Of x) (PlaGives Of x) (λ parts.
+    Last (LacksOutput output parts) (IsThere output parts.outputs) (Minima rails budget output parts))
+
 -- What the texts of a job come to: the standard input first, the chosen output, the side file, then what is tested of it.
 abbrev pub JobComes : OfTold → Job → Texts → Judgement → Type 0
 JobComes Of (job.Pairs output) x = LatticesCome Of construction.Pairs output x
@@ -163,6 +170,7 @@ JobComes Of (job.Dual output) x = LatticesCome Of construction.Dual output x
 JobComes Of (job.Cnf output size) x = EncodingComes Of output size x
 JobComes Of job.Verify x = VerifyComes Of x
 JobComes Of job.Check x = CheckComes Of x
+JobComes Of (job.Synth conflicts output rails) x = SynthComes Of rails conflicts output x
 
 -- What words and texts come to. Words that ask for no job are refused.
 abbrev pub Comes : OfTold → Option Job → Texts → Judgement → Type 0
@@ -177,6 +185,7 @@ Opens (Some (job.Dual output)) x = ⊥
 Opens (Some (job.Cnf output size)) x = ⊥
 Opens (Some job.Verify) x = (parts : Parts) × PlaGives IfSome x parts
 Opens (Some job.Check) x = (formula : Formula) × CnfGives IfSome x formula
+Opens (Some (job.Synth conflicts output rails)) x = ⊥
 
 -- The inputs are accepted.
 abbrev pub IsGranted : (Judgement → Type 0) → Type 0

@@ -9,6 +9,8 @@ pub mod Judge
 pub mod Inputs
 pub mod Lattices
 pub mod Verified
+pub mod Synth
+pub mod Minima
 pub mod Work
 pub mod Run
 pub mod Laws

@@ -6,7 +6,7 @@ use Rattle.clause_core.specs.declared.refusal.CnfRefusal.TheVariants as cnf
 use Rattle.pla_reader.specs.declared.pla.PlaRefusal.TheVariants as pla
 use Rattle.wire_io.specs.Told.{Gains, GainsFront, IsSpent, LosesUpTo}
 use Rattle.wire_io.specs.Causes.{Device}
-use Rattle.four_lattice.specs.Devices.{Change, still, Failed, IsReadFor}
+use Rattle.four_lattice.specs.Devices.{Change, GainsTold, still, Failed, IsReadFor}
 use Rattle.four_lattice.specs.Ending.{status_of, note_text}
 use Rattle.four_lattice.specs.Judge.{Texts, Task, Judgement, Refused as Refuses, Accepted, Comes}
 use Rattle.four_lattice.specs.Uses.{Uses, uses, most_bytes, most_side_bytes}
@@ -55,7 +55,7 @@ HasReadFault u d = ((u.pla ≡ true) × Failed d.pla) ⊎ ((u.side ≡ true) × 
 abbrev pub HasWriteFault : Uses → Devices → Type 0
 HasWriteFault u d = Failed d.out ⊎ ((u.journal ≡ true) × Failed d.journal)
 
--- The texts are accepted as a task, and the sinks gained what it writes.
+-- The texts are accepted as a task, and the sinks gained what it writes, the journal where it tells.
 pub record Works (J : Judgement → Type 0) (undecided : Bool) (d : Devices) : Type 0 where
   pub task : Task
   pub accepted : J (Accepted task)
@@ -63,17 +63,17 @@ pub record Works (J : Judgement → Type 0) (undecided : Bool) (d : Devices) : T
   pub does : Does task written
   pub decided : written.undecided ≡ undecided
   pub out : Gains d.out.old.told d.out.new.told written.out
-  pub journal : Gains d.journal.old.told d.journal.new.told written.journal
+  pub journal : GainsTold d.journal.old.told d.journal.new.told written.journal
 
--- The texts are accepted as a task, and the sinks gained what stands of it where it broke off.
+-- The texts are accepted as a task, and the sinks gained what stands of it where it broke off, the journal where it tells.
 pub record Began (J : Judgement → Type 0) (d : Devices) : Type 0 where
   pub task : Task
   pub accepted : J (Accepted task)
   pub out : List ℕ
-  pub journal : List ℕ
+  pub journal : Option (List ℕ)
   pub begins : Begins task out journal
   pub out_gained : Gains d.out.old.told d.out.new.told out
-  pub journal_gained : Gains d.journal.old.told d.journal.new.told journal
+  pub journal_gained : GainsTold d.journal.old.told d.journal.new.told journal
 
 -- How a run ends: refused texts are told to be so, and nothing is written; a fault has its cause; work is that of accepted texts.
 abbrev pub Ends : (Judgement → Type 0) → Uses → Ending → Devices → Type 0
@@ -157,7 +157,7 @@ pub record IsDone (task : Task) (result : Status) (d : Devices) : Type 0 where
   pub written : Written
   pub does : Does task written
   pub out : Gains d.out.old.told d.out.new.told written.out
-  pub journal : Gains d.journal.old.told d.journal.new.told written.journal
+  pub journal : GainsTold d.journal.old.told d.journal.new.told written.journal
   pub status_is : ((written.undecided ≡ false) × (result ≡ status.Done)) ⊎ ((written.undecided ≡ true) × (result ≡ status.Undecided))
 
 -- Told texts that are accepted end the run with their task done, or a sink that the command names failed.

@@ -2,7 +2,7 @@
 use Rattle.std.specs.Prelude.{ℕ, Bool, true, false, None, Some}
 use Rattle.std.specs.declared.option.Option.{Option}
 use Rattle.four_lattice.specs.declared.words.Job.{Job}
-use Rattle.four_lattice.specs.declared.words.Job.TheVariants.{Pairs, Dual, Cnf, Verify, Check}
+use Rattle.four_lattice.specs.declared.words.Job.TheVariants.{Pairs, Dual, Cnf, Verify, Check, Synth}
 
 -- whether the standard input is read, and the side file, and whether a journal is written
 pub record Uses : Type 0 where
@@ -19,6 +19,9 @@ pla_alone = record { pla = true; side = false; journal = false }
 abbrev pub pla_and_side : Uses
 pla_and_side = record { pla = true; side = true; journal = false }
 
+abbrev pub pla_and_journal : Uses
+pla_and_journal = record { pla = true; side = false; journal = true }
+
 -- the table of devices
 abbrev pub uses_of : Job → Uses
 uses_of (Pairs output) = pla_alone
@@ -26,6 +29,7 @@ uses_of (Dual output) = pla_alone
 uses_of (Cnf output size) = pla_alone
 uses_of Verify = pla_and_side
 uses_of Check = pla_and_side
+uses_of (Synth conflicts output rails) = pla_and_journal
 
 -- words that ask for no job use nothing
 abbrev pub uses : Option Job → Uses
@@ -49,6 +53,7 @@ most_bytes_of (Dual output) = most_pla_bytes
 most_bytes_of (Cnf output size) = most_pla_bytes
 most_bytes_of Verify = most_pla_bytes
 most_bytes_of Check = most_cnf_bytes
+most_bytes_of (Synth conflicts output rails) = most_pla_bytes
 
 abbrev pub most_bytes : Option Job → ℕ
 most_bytes None = 0

@@ -9,7 +9,7 @@ use Rattle.std.specs.Str.Parse.{digits_value}
 use Rattle.four_lattice.specs.declared.words.Job.{Job}
 use Rattle.four_lattice.specs.declared.words.Job.TheVariants as job
 use Rattle.four_lattice.specs.declared.words.Verb.{Verb}
-use Rattle.four_lattice.specs.declared.words.Verb.TheVariants.{Pairs, Dual, Cnf, Verify, Check}
+use Rattle.four_lattice.specs.declared.words.Verb.TheVariants.{Pairs, Dual, Cnf, Verify, Check, Synth}
 
 -- a plain word is not empty, and does not begin with `-`
 abbrev pub is_plain : List ℕ → Bool
@@ -43,6 +43,13 @@ rows_setting = record { name = codes "rows"; least = 1; most = 16 }
 abbrev pub cols_setting : Setting
 cols_setting = record { name = codes "cols"; least = 1; most = 16 }
 
+-- `--conflicts`, of 0 to 200,000, and `--rails`, of 0 to 1,048,575
+abbrev pub conflicts_setting : Setting
+conflicts_setting = record { name = codes "conflicts"; least = 0; most = 200000 }
+
+abbrev pub rails_setting : Setting
+rails_setting = record { name = codes "rails"; least = 0; most = 1048575 }
+
 -- the table of commands
 abbrev pub row_of : Verb → Row
 row_of Pairs = record { options = output_setting ∷ []; wants_file = false }
@@ -50,6 +57,7 @@ row_of Dual = record { options = output_setting ∷ []; wants_file = false }
 row_of Cnf = record { options = rows_setting ∷ cols_setting ∷ output_setting ∷ []; wants_file = false }
 row_of Verify = record { options = []; wants_file = true }
 row_of Check = record { options = []; wants_file = true }
+row_of Synth = record { options = conflicts_setting ∷ output_setting ∷ rails_setting ∷ []; wants_file = true }
 
 -- the command that a word names
 abbrev pub verb_of : List ℕ → Option Verb
@@ -59,7 +67,8 @@ verb_of word =
     else (if bytes_eq word (codes "cnf") then Some Cnf
     else (if bytes_eq word (codes "verify") then Some Verify
     else (if bytes_eq word (codes "check") then Some Check
-    else None))))
+    else (if bytes_eq word (codes "synth") then Some Synth
+    else None)))))
 
 -- options that were given, each a name with its number
 abbrev pub Given : Type 0
@@ -95,7 +104,12 @@ size_given None cols = None
 size_given (Some rows) None = None
 size_given (Some rows) (Some cols) = if is_side rows && is_side cols then Some (record { rows = rows; cols = cols }) else None
 
--- the job of a command for which this is given; `cnf` needs rows and columns, and takes output 0 where none is given
+-- `synth` of so many conflicts for a question and of these rails, where both may be
+abbrev pub synth_given : ℕ → Option ℕ → ℕ → Option Job
+synth_given conflicts output rails = if nat_le conflicts 200000 && nat_le rails 1048575 then Some (job.Synth conflicts output rails) else None
+
+-- the job of a command for which this is given; `cnf` needs rows and columns, and takes output 0 where none is given; `synth` takes 20,000 conflicts
+-- and all literals where they are not given
 abbrev pub job_from : Verb → Given → Option Job
 job_from Pairs given = Some (job.Pairs (number_given (codes "output") given))
 job_from Dual given = Some (job.Dual (number_given (codes "output") given))
@@ -103,16 +117,19 @@ job_from Cnf given =
     option_map (job.Cnf (unwrap_or (number_given (codes "output") given) 0)) (size_given (number_given (codes "rows") given) (number_given (codes "cols") given))
 job_from Verify given = Some job.Verify
 job_from Check given = Some job.Check
+job_from Synth given =
+    synth_given (unwrap_or (number_given (codes "conflicts") given) 20000) (number_given (codes "output") given) (unwrap_or (number_given (codes "rails") given) 1048575)
 
 -- the job of a list of words, of which the first is the command
 abbrev pub job_of : List (List ℕ) → Option Job
 job_of [] = None
 job_of (word ∷ words) = option_and_then (λ verb. option_and_then (job_from verb) (given_of (row_of verb) [] words)) (verb_of word)
 
--- The shape of a job, if it has one, has at most sixteen rows and columns.
-abbrev pub HasSmallShape : Job → Type 0
-HasSmallShape (job.Pairs output) = Unit {0}
-HasSmallShape (job.Dual output) = Unit {0}
-HasSmallShape (job.Cnf output size) = (size.rows ≤ 16) × (size.cols ≤ 16)
-HasSmallShape job.Verify = Unit {0}
-HasSmallShape job.Check = Unit {0}
+-- A shape that a job has is of at most sixteen rows and columns, and conflicts are at most 200,000.
+abbrev pub IsWithinBounds : Job → Type 0
+IsWithinBounds (job.Pairs output) = Unit {0}
+IsWithinBounds (job.Dual output) = Unit {0}
+IsWithinBounds (job.Cnf output size) = (size.rows ≤ 16) × (size.cols ≤ 16)
+IsWithinBounds job.Verify = Unit {0}
+IsWithinBounds job.Check = Unit {0}
+IsWithinBounds (job.Synth conflicts output rails) = conflicts ≤ 200000

@@ -1,19 +1,21 @@
 -- What a task writes, and what stands of it where it broke off.
-use Rattle.std.specs.Prelude.{◌≡◌, ℕ, Bool, false, List, [], ◌++◌, length, codes, None}
+use Rattle.std.specs.Prelude.{◌≡◌, ℕ, Bool, false, List, [], ◌++◌, length, codes, None, Some}
+use Rattle.std.specs.declared.option.Option.{Option}
 use Rattle.std.specs.Fmt.{decimal}
 use Rattle.clause_core.specs.Cnf.{cnf_text}
 use Rattle.cube_core.specs.Function.{Function}
 use Rattle.lattice_grid.specs.Rectangle.{Size}
 use Rattle.reach_encoding.specs.Encoding.{Question, encoding}
 use Rattle.report_text.specs.Report.{ReportParts, report_text}
-use Rattle.four_lattice.specs.Judge.{Task, Lattices, Encoding, Realised, Refuted}
+use Rattle.four_lattice.specs.Judge.{Task, Lattices, Encoding, Realised, Refuted, Minima}
 use Rattle.four_lattice.specs.Lattices.{report_by}
+use Rattle.four_lattice.specs.Synth.{IsFront, AreMinima, BeginMinima}
 use Rattle.four_lattice.specs.Verified.{IsVerified}
 
--- what the standard output and the journal got, and whether an answer in it is undecided
+-- what the standard output and the journal got, where the journal tells, and whether an answer in it is undecided
 pub record Written : Type 0 where
   pub out : List ℕ
-  pub journal : List ℕ
+  pub journal : Option (List ℕ)
   pub undecided : Bool
 
 -- how many blocks of a report are right
@@ -24,31 +26,29 @@ realised_text report = codes "realised " ++ (decimal (length report.blocks) ++ c
 abbrev pub question_of : Size → Function → Question
 question_of size f = record { function = f; rails = 1048575; size = size; array = None }
 
--- A front of a text.
-abbrev pub IsFront : List ℕ → List ℕ → Type 0
-IsFront front text = (rest : List ℕ) × (text ≡ front ++ rest)
-
 -- This text alone is written.
 pub record Says (text : List ℕ) (w : Written) : Type 0 where
   pub out : w.out ≡ text
-  pub journal : w.journal ≡ []
+  pub journal : w.journal ≡ Some []
   pub undecided : w.undecided ≡ false
 
 -- A front of this text alone is written.
-pub record SaysFront (text out journal : List ℕ) : Type 0 where
+pub record SaysFront (text out : List ℕ) (journal : Option (List ℕ)) : Type 0 where
   pub front : IsFront out text
-  pub none : journal ≡ []
+  pub none : journal ≡ Some []
 
--- What a task writes, whole. Each lattice of a report realises its output.
+-- What a task writes, whole. Each lattice of a report of `pairs` or `dual` realises its output.
 abbrev pub Does : Task → Written → Type 0
 Does (Lattices how output parts) w = Says (report_text (report_by how output parts)) w × IsVerified parts (report_by how output parts)
 Does (Encoding size f) w = Says (cnf_text (encoding (question_of size f))) w
 Does (Realised report) w = Says (realised_text report) w
 Does Refuted w = Says (codes "verified\n") w
+Does (Minima rails budget output parts) w = AreMinima rails budget output parts w.out w.journal w.undecided
 
 -- What stands of it where it broke off.
-abbrev pub Begins : Task → List ℕ → List ℕ → Type 0
+abbrev pub Begins : Task → List ℕ → Option (List ℕ) → Type 0
 Begins (Lattices how output parts) out journal = SaysFront (report_text (report_by how output parts)) out journal × IsVerified parts (report_by how output parts)
 Begins (Encoding size f) out journal = SaysFront (cnf_text (encoding (question_of size f))) out journal
 Begins (Realised report) out journal = SaysFront (realised_text report) out journal
 Begins Refuted out journal = SaysFront (codes "verified\n") out journal
+Begins (Minima rails budget output parts) out journal = BeginMinima rails budget output parts out journal

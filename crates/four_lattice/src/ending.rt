@@ -70,6 +70,13 @@ pub enum Ending {
     NoMemory,
 }
 
+/// How a run ended, and the sink of its journal.
+#[derive(Drop)]
+pub(crate) struct Finished<K> {
+    pub(crate) ending: Ending,
+    pub(crate) journal: K,
+}
+
 impl Refusal {
     /// The status of a refusal, by its level.
     fn status(&self) -> Status

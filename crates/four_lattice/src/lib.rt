@@ -9,5 +9,6 @@ mod lattices;
 mod notes;
 pub mod run;
 pub mod status;
+mod synth;
 pub mod verify;
 pub mod words;

@@ -1,19 +1,20 @@
 //! The top call.
-ghost use Rattle.std.specs.Prelude.{◌≡◌, ◌⊎◌, ℕ, false, IfSome, Some};
+ghost use Rattle.std.specs.Prelude.{◌≡◌, ◌⊎◌, ℕ, true, false, [], IfSome, Some};
 ghost use Rattle.wire_io.specs.Causes.{Device};
 ghost use Rattle.four_lattice.specs.Devices.{change};
 ghost use Rattle.four_lattice.specs.Judge.{Comes, JobComes, IsGranted, Opens};
 ghost use Rattle.four_lattice.specs.Laws.{IsOneJudgement};
-ghost use Rattle.four_lattice.specs.Run.{job_asked, FinishesQuiet, Answers, AreJudged, SettlesRefusal, SettlesTask};
+ghost use Rattle.four_lattice.specs.Run.{job_asked, Finishes, FinishesAsked, Answers, AreJudged, SettlesRefusal, SettlesTask};
 ghost use Rattle.four_lattice.specs.Uses.{uses, uses_of, most_bytes, most_bytes_of};
-ghost use Rattle.four_lattice.specs.Words.{HasSmallShape};
+ghost use Rattle.four_lattice.specs.Words.{IsWithinBounds};
 
 use crate::check::end_of_check;
 use crate::encoding::end_of_cnf;
-use crate::ending::{Ending, Refusal};
+use crate::ending::{Ending, Finished, Refusal};
 use crate::lattices::{Construction, end_of_lattices};
 use crate::notes::write_note;
 use crate::status::Status;
+use crate::synth::end_of_synth;
 use crate::verify::end_of_verify;
 use crate::words::{Job, WordsFault, settings};
 use std::alloc::Global;
@@ -27,31 +28,56 @@ pub struct Ended<K: Drop> {
     pub journal: K,
 }
 
-/// How a job ends that does not call the journal.
+/// How a job ends.
 fn end_of_job<S: Source, K: Sink>(
     alloc: Global,
     job: Job,
     pla: &mut S,
     side: &mut S,
     out: &mut K,
-) -> Ending
-    requires { HasSmallShape job }
-    ensures finishes { FinishesQuiet (JobComes IfSome job) (uses_of job) (most_bytes_of job) result
-        (change (S.left pla.old) (S.faults pla.old) (S.left pla.new) (S.faults pla.new))
-        (change (S.left side.old) (S.faults side.old) (S.left side.new) (S.faults side.new))
-        (change (K.got out.old) (K.faults out.old) (K.got out.new) (K.faults out.new)) }
+    journal: K,
+) -> Finished<K>
+    requires within { IsWithinBounds job }
+    requires empty { (uses_of job).journal ≡ true → IfSome (K.got journal) (λ bytes. bytes ≡ []) }
+    ensures finishes { Finishes (JobComes IfSome job (record { pla = S.left pla.old; side = S.left side.old })) (uses_of job) (most_bytes_of job) result.ending
+        (record {
+          pla = change (S.left pla.old) (S.faults pla.old) (S.left pla.new) (S.faults pla.new);
+          side = change (S.left side.old) (S.faults side.old) (S.left side.new) (S.faults side.new);
+          out = change (K.got out.old) (K.faults out.old) (K.got out.new) (K.faults out.new);
+          journal = change (K.got journal) (K.faults journal) (K.got result.journal) (K.faults result.journal);
+        }) }
     ensures side_last { (side.new ≡ side.old) ⊎ Opens (Some job) (record { pla = S.left pla.old; side = S.left side.old }) }
     ensures out_last { (out.new ≡ out.old) ⊎ IsGranted (JobComes IfSome job (record { pla = S.left pla.old; side = S.left side.old })) }
+    ensures journal_last { (result.journal ≡ journal) ⊎ IsGranted (JobComes IfSome job (record { pla = S.left pla.old; side = S.left side.old })) }
     ensures side_kept { (uses_of job).side ≡ false → side.new ≡ side.old }
+    ensures journal_kept { (uses_of job).journal ≡ false → result.journal ≡ journal }
 {
     match job {
         Job::Pairs { output } => {
-            end_of_lattices(alloc, Construction::Pairs, output, pla, side, out)
+            let ending = end_of_lattices(alloc, Construction::Pairs, output, pla, side, out);
+            Finished { ending, journal }
         }
-        Job::Dual { output } => end_of_lattices(alloc, Construction::Dual, output, pla, side, out),
-        Job::Cnf { output, shape } => end_of_cnf(alloc, output, shape, pla, side, out),
-        Job::Verify => end_of_verify(alloc, pla, side, out),
-        Job::Check => end_of_check(alloc, pla, side, out),
+        Job::Dual { output } => {
+            let ending = end_of_lattices(alloc, Construction::Dual, output, pla, side, out);
+            Finished { ending, journal }
+        }
+        Job::Cnf { output, shape } => {
+            let ending = end_of_cnf(alloc, output, shape, pla, side, out);
+            Finished { ending, journal }
+        }
+        Job::Verify => {
+            let ending = end_of_verify(alloc, pla, side, out);
+            Finished { ending, journal }
+        }
+        Job::Check => {
+            let ending = end_of_check(alloc, pla, side, out);
+            Finished { ending, journal }
+        }
+        Job::Synth {
+            conflicts,
+            output,
+            rails,
+        } => end_of_synth(alloc, output, rails, conflicts, pla, side, out, journal),
     }
 }
 
@@ -62,20 +88,33 @@ fn end_of_words<S: Source, K: Sink>(
     pla: &mut S,
     side: &mut S,
     out: &mut K,
-) -> Ending
-    ensures finishes { FinishesQuiet (Comes IfSome (job_asked words.now)) (uses (job_asked words.now)) (most_bytes (job_asked words.now)) result
-        (change (S.left pla.old) (S.faults pla.old) (S.left pla.new) (S.faults pla.new))
-        (change (S.left side.old) (S.faults side.old) (S.left side.new) (S.faults side.new))
-        (change (K.got out.old) (K.faults out.old) (K.got out.new) (K.faults out.new)) }
+    journal: K,
+) -> Finished<K>
+    requires empty { (uses (job_asked words.now)).journal ≡ true → IfSome (K.got journal) (λ bytes. bytes ≡ []) }
+    ensures finishes { FinishesAsked (job_asked words.now) result.ending
+        (record {
+          pla = change (S.left pla.old) (S.faults pla.old) (S.left pla.new) (S.faults pla.new);
+          side = change (S.left side.old) (S.faults side.old) (S.left side.new) (S.faults side.new);
+          out = change (K.got out.old) (K.faults out.old) (K.got out.new) (K.faults out.new);
+          journal = change (K.got journal) (K.faults journal) (K.got result.journal) (K.faults result.journal);
+        }) }
     ensures side_last { (side.new ≡ side.old) ⊎ Opens (job_asked words.now) (record { pla = S.left pla.old; side = S.left side.old }) }
     ensures out_last { (out.new ≡ out.old) ⊎ IsGranted (Comes IfSome (job_asked words.now) (record { pla = S.left pla.old; side = S.left side.old })) }
+    ensures journal_last { (result.journal ≡ journal) ⊎ IsGranted (Comes IfSome (job_asked words.now) (record { pla = S.left pla.old; side = S.left side.old })) }
     ensures pla_kept { (uses (job_asked words.now)).pla ≡ false → pla.new ≡ pla.old }
     ensures side_kept { (uses (job_asked words.now)).side ≡ false → side.new ≡ side.old }
+    ensures journal_kept { (uses (job_asked words.now)).journal ≡ false → result.journal ≡ journal }
 {
     match settings(alloc, words) {
-        Ok(job) => end_of_job(alloc, job, pla, side, out),
-        Err(WordsFault::Refused) => Ending::Refused(Refusal::Words),
-        Err(WordsFault::NoMemory) => Ending::NoMemory,
+        Ok(job) => end_of_job(alloc, job, pla, side, out, journal),
+        Err(WordsFault::Refused) => Finished {
+            ending: Ending::Refused(Refusal::Words),
+            journal,
+        },
+        Err(WordsFault::NoMemory) => Finished {
+            ending: Ending::NoMemory,
+            journal,
+        },
     }
 }
 
@@ -89,6 +128,7 @@ fn answer<S: Source, K: Sink + Drop>(
     journal: K,
     notes: &mut K,
 ) -> Ended<K>
+    requires empty { (uses (job_asked words.now)).journal ≡ true → IfSome (K.got journal) (λ bytes. bytes ≡ []) }
     ensures answers { Answers (job_asked words.now) result.status
         (record {
           pla = change (S.left pla.old) (S.faults pla.old) (S.left pla.new) (S.faults pla.new);
@@ -101,9 +141,10 @@ fn answer<S: Source, K: Sink + Drop>(
     ensures side_kept { (uses (job_asked words.now)).side ≡ false → side.new ≡ side.old }
     ensures side_last { (side.new ≡ side.old) ⊎ Opens (job_asked words.now) (record { pla = S.left pla.old; side = S.left side.old }) }
     ensures out_last { (out.new ≡ out.old) ⊎ IsGranted (Comes IfSome (job_asked words.now) (record { pla = S.left pla.old; side = S.left side.old })) }
-    ensures journal_kept { result.journal ≡ journal }
+    ensures journal_last { (result.journal ≡ journal) ⊎ IsGranted (Comes IfSome (job_asked words.now) (record { pla = S.left pla.old; side = S.left side.old })) }
+    ensures journal_kept { (uses (job_asked words.now)).journal ≡ false → result.journal ≡ journal }
 {
-    let ending = end_of_words(alloc, words, pla, side, out);
+    let Finished { ending, journal } = end_of_words(alloc, words, pla, side, out, journal);
     let _ = write_note(notes, &ending);
     Ended {
         status: ending.status(),
@@ -123,6 +164,8 @@ pub fn run<S: Source, K: Sink + Drop>(
     journal: K,
     notes: &mut K,
 ) -> Ended<K>
+    // The journal got nothing yet, where the command writes one.
+    requires empty { (uses (job_asked words.now)).journal ≡ true → IfSome (K.got journal) (λ bytes. bytes ≡ []) }
     // The status of refused words comes exactly where the words are no command's, but for want of memory.
     ensures words { AreJudged (job_asked words.now) result.status }
     // Each status has its cause, what was written is the work of accepted texts, and the notes get their line.
@@ -152,11 +195,12 @@ pub fn run<S: Source, K: Sink + Drop>(
           journal = change (K.got journal) (K.faults journal) (K.got result.journal) (K.faults result.journal);
         }) }
     // Devices that the command does not use are the same objects; the side file is called only where the text before it
-    // is accepted, and the standard output only where both are.
+    // is accepted, and the standard output and the journal only where all are.
     ensures pla_kept { (uses (job_asked words.now)).pla ≡ false → pla.new ≡ pla.old }
     ensures side_kept { (uses (job_asked words.now)).side ≡ false → side.new ≡ side.old }
     ensures side_last { (side.new ≡ side.old) ⊎ Opens (job_asked words.now) (record { pla = S.left pla.old; side = S.left side.old }) }
     ensures out_last { (out.new ≡ out.old) ⊎ IsGranted (Comes IfSome (job_asked words.now) (record { pla = S.left pla.old; side = S.left side.old })) }
+    ensures journal_last { (result.journal ≡ journal) ⊎ IsGranted (Comes IfSome (job_asked words.now) (record { pla = S.left pla.old; side = S.left side.old })) }
     ensures journal_kept { (uses (job_asked words.now)).journal ≡ false → result.journal ≡ journal }
 {
     answer(alloc, words, pla, side, out, journal, notes)

@@ -5,11 +5,12 @@ ghost use Rattle.std.specs.List.{list_all};
 ghost use Rattle.std.specs.Char.{is_ascii_digit};
 ghost use Rattle.clap.specs.Words.{app_of, kind_of, rule_of};
 ghost use Rattle.clap.specs.declared.error.kind.ErrorKind.TheVariants.{OutOfMemory};
-ghost use Rattle.four_lattice.specs.Words.{Given, given_of, is_number, is_plain, job_from, job_of, number_given, cols_setting, output_setting, rows_setting, row_of, size_given, verb_of, HasSmallShape};
+ghost use Rattle.four_lattice.specs.Words.{Given, given_of, is_number, is_plain, job_from, job_of, number_given, cols_setting, conflicts_setting, output_setting, rails_setting, rows_setting, row_of, size_given, synth_given, verb_of, IsWithinBounds};
 ghost use Rattle.four_lattice.specs.WordsParts.{Shows, bare_app, file_rule, is_option, is_spelled, number_rule, row_app, verb_name};
 
 use clap::error::ErrorKind;
 use clap::{Arg, ArgMatches, Command, value_parser};
+use lattice_grid::rails::{ALL_RAILS, Rails};
 use lattice_grid::shape::Shape;
 use std::alloc::{AllocError, Global};
 
@@ -17,15 +18,29 @@ use std::alloc::{AllocError, Global};
 #[derive(Clone, Copy, Debug, PartialEq, Eq)]
 pub enum Job {
     /// `pairs`: the pairs lattices of a PLA, of one output or of all.
-    Pairs { output: Option<u32> },
+    Pairs {
+        output: Option<u32>,
+    },
     /// `dual`: the dual lattices of a PLA, of one output or of all.
-    Dual { output: Option<u32> },
+    Dual {
+        output: Option<u32>,
+    },
     /// `cnf`: the formula of a shape for one output of a PLA.
-    Cnf { output: u32, shape: Shape },
+    Cnf {
+        output: u32,
+        shape: Shape,
+    },
     /// `verify FILE`: whether the lattices of the report in a file realise the outputs of a PLA.
     Verify,
     /// `check FILE`: whether the steps of a file refute a CNF.
     Check,
+    /// `synth FILE`: lattices of least area of a PLA, of one output or of all, over the literals that rails allow, and a
+    /// journal in a file that shows it; at most so many conflicts for each question.
+    Synth {
+        conflicts: u32,
+        output: Option<u32>,
+        rails: Rails,
+    },
 }
 
 /// A command, as its word names it.
@@ -36,6 +51,7 @@ pub(crate) enum Verb {
     Cnf,
     Verify,
     Check,
+    Synth,
 }
 
 /// Why the words give no job.
@@ -81,6 +97,7 @@ pub(crate) fn verb_of(word: &str) -> Option<Verb>
         "cnf" => Some(Verb::Cnf),
         "verify" => Some(Verb::Verify),
         "check" => Some(Verb::Check),
+        "synth" => Some(Verb::Synth),
         _ => None,
     }
 }
@@ -119,7 +136,10 @@ fn is_number_word(word: &str) -> bool
 fn is_option_word(word: &str) -> bool
     ensures { result ≡ is_option word.now }
 {
-    word == "--output" || word == "--rows" || word == "--cols"
+    matches!(
+        word,
+        "--output" | "--rows" | "--cols" | "--conflicts" | "--rails"
+    )
 }
 
 /// Whether words are all plain.
@@ -190,6 +210,28 @@ fn cols_option<'a>(alloc: Global) -> Arg<'a>
     number_option(alloc, "cols", 1, 16)
 }
 
+/// The most conflicts for a question that may be asked for.
+const MOST_CONFLICTS: u32 = 200_000;
+
+/// The conflicts for a question where none are asked for.
+const USUAL_CONFLICTS: u32 = 20_000;
+
+/// `--conflicts`, of 0 to 200,000.
+fn conflicts_option<'a>(alloc: Global) -> Arg<'a>
+    ensures rule { rule_of result ≡ number_rule conflicts_setting }
+    ensures local { result.global ≡ false }
+{
+    number_option(alloc, "conflicts", 0, MOST_CONFLICTS)
+}
+
+/// `--rails`, of 0 to 1,048,575.
+fn rails_option<'a>(alloc: Global) -> Arg<'a>
+    ensures rule { rule_of result ≡ number_rule rails_setting }
+    ensures local { result.global ≡ false }
+{
+    number_option(alloc, "rails", 0, ALL_RAILS)
+}
+
 /// The file that a command wants.
 fn file_argument<'a>(alloc: Global) -> Arg<'a>
     ensures rule { rule_of result ≡ file_rule }
@@ -211,6 +253,11 @@ fn command_of<'a>(alloc: Global, verb: Verb) -> Result<Command<'a>, AllocError>
             .arg(output_option(alloc)),
         Verb::Verify => bare_command(alloc, "verify").arg(file_argument(alloc)),
         Verb::Check => bare_command(alloc, "check").arg(file_argument(alloc)),
+        Verb::Synth => bare_command(alloc, "synth")
+            .arg(conflicts_option(alloc))?
+            .arg(output_option(alloc))?
+            .arg(rails_option(alloc))?
+            .arg(file_argument(alloc)),
     }
 }
 
@@ -250,10 +297,26 @@ fn shape_found(rows: Option<u32>, cols: Option<u32>) -> Option<Shape>
     Shape::new(rows, cols)
 }
 
+/// The job `synth` of so many conflicts and of rails by their number, where neither is above what may be asked for.
+fn synth_found(conflicts: u32, output: Option<u32>, rails: u32) -> Option<Job>
+    ensures same { result ≡ synth_given conflicts output rails }
+    ensures within { IfSome result IsWithinBounds }
+{
+    if conflicts > MOST_CONFLICTS {
+        return None;
+    }
+    let rails = Rails::new(rails)?;
+    Some(Job::Synth {
+        conflicts,
+        output,
+        rails,
+    })
+}
+
 /// The job of a command for which this was found.
 fn job_found(verb: Verb, matches: &ArgMatches<'_>) -> Option<Job>
     ensures job { (given : Given) → Shows given matches.now → result ≡ job_from verb given }
-    ensures small { IfSome result HasSmallShape }
+    ensures small { IfSome result IsWithinBounds }
 {
     match verb {
         Verb::Pairs => Some(Job::Pairs {
@@ -271,6 +334,11 @@ fn job_found(verb: Verb, matches: &ArgMatches<'_>) -> Option<Job>
         }
         Verb::Verify => Some(Job::Verify),
         Verb::Check => Some(Job::Check),
+        Verb::Synth => synth_found(
+            number_found(matches, "conflicts").unwrap_or(USUAL_CONFLICTS),
+            number_found(matches, "output"),
+            number_found(matches, "rails").unwrap_or(ALL_RAILS),
+        ),
     }
 }
 
@@ -278,7 +346,7 @@ fn job_found(verb: Verb, matches: &ArgMatches<'_>) -> Option<Job>
 fn job_asked(alloc: Global, verb: Verb, words: &[String]) -> Result<Job, WordsFault>
     ensures ok { IfOk result (λ job. option_and_then (job_from verb) (given_of (row_of verb) [] (map string_bytes words.now)) ≡ Some job) }
     ensures refused { result ≡ Err WordsFault.Refused → option_and_then (job_from verb) (given_of (row_of verb) [] (map string_bytes words.now)) ≡ None }
-    ensures small { IfOk result HasSmallShape }
+    ensures small { IfOk result IsWithinBounds }
 {
     if !are_spelled(words) {
         return Err(WordsFault::Refused);
@@ -294,7 +362,7 @@ fn job_asked(alloc: Global, verb: Verb, words: &[String]) -> Result<Job, WordsFa
 pub fn settings(alloc: Global, words: &[String]) -> Result<Job, WordsFault>
     ensures ok { IfOk result (λ job. job_of (map string_bytes words.now) ≡ Some job) }
     ensures refused { result ≡ Err WordsFault.Refused → job_of (map string_bytes words.now) ≡ None }
-    ensures small { IfOk result HasSmallShape }
+    ensures small { IfOk result IsWithinBounds }
 {
     let [name, rest @ ..] = words else {
         return Err(WordsFault::Refused);

@@ -16,6 +16,8 @@ mod pairs;
 #[cfg(test)]
 mod row;
 #[cfg(test)]
+mod synth;
+#[cfg(test)]
 mod verify;
 #[cfg(test)]
 mod words;

@@ -2,6 +2,7 @@
 use crate::row::{Row, refused, try_row, words_of};
 use four_lattice::status::Status;
 use four_lattice::words::{Job, settings};
+use lattice_grid::rails::Rails;
 use std::alloc::Global;
 use std::test::Fail;
 
@@ -43,7 +44,15 @@ fn no_command(rt: HostRuntime) -> Result<(), Fail> {
         refused_words(&["verify", "J", "K"]),
         refused_words(&["verify", "--output", "1", "J"]),
         refused_words(&["check", "J", "--output", "1"]),
-        refused_words(&["synth", "J"]),
+        refused_words(&["synth"]),
+        refused_words(&["synth", "J", "--conflicts", "5"]),
+        refused_words(&["synth", "--conflicts", "200001", "J"]),
+        refused_words(&["synth", "--conflicts=5", "J"]),
+        refused_words(&["synth", "--conflicts", "1", "--conflicts", "1", "J"]),
+        refused_words(&["synth", "--rails", "1048576", "J"]),
+        refused_words(&["synth", "--output", "64", "J"]),
+        refused_words(&["pairs", "--conflicts", "1"]),
+        refused_words(&["minima", "J"]),
     ];
     for row in &rows {
         try_row(&rt, rt.alloc(), row)?;
@@ -77,5 +86,37 @@ fn commands(rt: HostRuntime) -> Result<(), Fail> {
     );
     assert!(rt; asks(alloc, &["verify", "J"], Job::Verify)?);
     assert!(rt; asks(alloc, &["check", "a b"], Job::Check)?);
+    assert!(rt;
+        asks(
+            alloc,
+            &["synth", "J"],
+            Job::Synth {
+                conflicts: 20_000,
+                output: None,
+                rails: Rails::all()
+            }
+        )?
+    );
+    let rails = Rails::new(6).ok_or("no rails")?;
+    assert!(rt;
+        asks(
+            alloc,
+            &[
+                "synth",
+                "--rails",
+                "6",
+                "--output",
+                "3",
+                "--conflicts",
+                "200000",
+                "J"
+            ],
+            Job::Synth {
+                conflicts: 200_000,
+                output: Some(3),
+                rails
+            }
+        )?
+    );
     Ok(())
 }

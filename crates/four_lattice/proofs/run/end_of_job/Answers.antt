@@ -1,16 +1,19 @@
 use Rattle.four_lattice.proofs.run.end_of_job.Goals as goal
 
 pub returns-in-Pairs-clause-finishes : goal.returns-in-Pairs-clause-finishes
-returns-in-Pairs-clause-finishes g c = rw c.in-Pairs.is c.end_of_lattices.ensures.finishes
+returns-in-Pairs-clause-finishes g c = rw c.in-Pairs.is (c.end_of_lattices-ending.ensures.finishes (record { told = g.K.Sink.got c.args.journal; faults = g.K.Sink.faults c.args.journal }))
 
 pub returns-in-Dual-clause-finishes : goal.returns-in-Dual-clause-finishes
-returns-in-Dual-clause-finishes g c = rw c.in-Dual.is c.end_of_lattices-in-Dual.ensures.finishes
+returns-in-Dual-clause-finishes g c = rw c.in-Dual.is (c.end_of_lattices-ending-in-Dual.ensures.finishes (record { told = g.K.Sink.got c.args.journal; faults = g.K.Sink.faults c.args.journal }))
 
 pub returns-in-Cnf-clause-finishes : goal.returns-in-Cnf-clause-finishes
-returns-in-Cnf-clause-finishes g c = rw c.in-Cnf.is c.end_of_cnf.ensures.finishes
+returns-in-Cnf-clause-finishes g c = rw c.in-Cnf.is (c.end_of_cnf-ending.ensures.finishes (record { told = g.K.Sink.got c.args.journal; faults = g.K.Sink.faults c.args.journal }))
 
 pub returns-in-Verify-clause-finishes : goal.returns-in-Verify-clause-finishes
-returns-in-Verify-clause-finishes g c = rw c.in-Verify.is c.end_of_verify.ensures.finishes
+returns-in-Verify-clause-finishes g c = rw c.in-Verify.is (c.end_of_verify-ending.ensures.finishes (record { told = g.K.Sink.got c.args.journal; faults = g.K.Sink.faults c.args.journal }))
 
 pub returns-in-Check-clause-finishes : goal.returns-in-Check-clause-finishes
-returns-in-Check-clause-finishes g c = rw c.in-Check.is c.end_of_check.ensures.finishes
+returns-in-Check-clause-finishes g c = rw c.in-Check.is (c.end_of_check-ending.ensures.finishes (record { told = g.K.Sink.got c.args.journal; faults = g.K.Sink.faults c.args.journal }))
+
+pub returns-in-Synth-clause-finishes : goal.returns-in-Synth-clause-finishes
+returns-in-Synth-clause-finishes g c = rw c.in-Synth.is c.end_of_synth.ensures.finishes

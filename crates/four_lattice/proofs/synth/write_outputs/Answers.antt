@@ -1,0 +1,25 @@
+use Rattle.std.proofs.Common.{rules, arith, ◌≡◌, ◌≤◌}
+use Rattle.four_lattice.proofs.SynthLaws.{asked-of, outputs-none, outputs-more, outputs-stopped}
+use Rattle.four_lattice.proofs.synth.write_outputs.Goals as goal
+
+pub loop-output-init : goal.loop-output-init
+loop-output-init g c = record { wrote = outputs-none _ c.args.first _ _; whole = c.requires.whole }
+
+pub returns-in_err-next-clause-stopped : goal.returns-in_err-next-clause-stopped
+returns-in_err-next-clause-stopped g c =
+    let few : c.args.rails ≤ 1048575 = search rules in
+    let st = outputs-stopped _ c.args.first c.loop-output.output c.args.end c.loop-output.decision c.in_err-next.field-0.0.fault _ _ _ _ _ _ (asked-of c.args.pla.now c.args.rails c.args.conflicts c.requires.pla few)
+    c.loop-output.auto.output c.loop-output-test.true c.requires.there c.loop-output.invariant.wrote c.in_err-next.ensures.stopped in
+    search (rules, st)
+
+pub loop-output-preserved : goal.loop-output-preserved
+loop-output-preserved g c = record {
+  wrote = outputs-more _ c.args.first c.loop-output.output c.loop-output.decision c.in_ok-next.next c.and-decision.result _ _ _ _ _ _ c.loop-output.auto.output c.and-decision.ensures c.loop-output.invariant.wrote c.in_ok-next.ensures.wrote;
+  whole = c.in_ok-next.ensures.whole;
+}
+
+pub returns-clause-wrote : goal.returns-clause-wrote
+returns-clause-wrote g c =
+    let l = c.loop-output.auto.output-end in let i = c.loop-output-test.false in let p = c.requires.rising in
+    let same : c.loop-output.output ≡ c.args.end = omega (arith, l, i, p) in
+    rw same at c.loop-output.invariant.wrote

@@ -1,0 +1,16 @@
+use Rattle.std.proofs.Common.{◌≡◌, ◌-◌, false}
+use Rattle.std.specs.List.{range_with_len}
+use Rattle.pla_reader.specs.Parts.{parts_of}
+use Rattle.four_lattice.specs.Devices.{change}
+use Rattle.four_lattice.specs.Minima.{asked, WroteBlocks}
+use Rattle.four_lattice.proofs.synth.write_outputs.Given as goal
+
+abbrev pub invariant-loop-output : goal.invariant-loop-output
+invariant-loop-output g l =
+    let got = g.K.Sink.got in let faults = g.K.Sink.faults in
+    record {
+      wrote : WroteBlocks (asked l.rails l.conflicts (parts_of l.pla)) (range_with_len l.first (l.output - l.first)) l.decision
+          (change (got l.initial.out) (faults l.initial.out) (got l.out) (faults l.out))
+          (change (got l.initial.writer.sink) (faults l.initial.writer.sink) (got l.writer.sink) (faults l.writer.sink));
+      whole : l.writer.failed ≡ false;
+    }

@@ -1,0 +1,371 @@
+//! The command `synth`.
+ghost use Rattle.std.specs.Prelude.{◌≡◌, ◌⊎◌, ℕ, ◌-◌, ◌<◌, ◌≤◌, ◌||◌, false, [], IfOk, IfErr, IfSome};
+ghost use Rattle.std.specs.List.{range_with_len};
+ghost use Rattle.pla_reader.specs.Parts.{parts_of, IsPla};
+ghost use Rattle.report_text.specs.Report.{parts_of_block};
+ghost use Rattle.four_lattice.specs.Devices.{change};
+ghost use Rattle.four_lattice.specs.Judge.{SynthComes, IsGranted};
+ghost use Rattle.four_lattice.specs.Lattices.{IsThere, IsWriteCause};
+ghost use Rattle.four_lattice.specs.Minima.{asked, is_open, AnswersOutput, CutsOutput, WroteOutput, StoppedOutput, WroteBlocks, StoppedBlocks, WroteHeads, StoppedHeads, WroteEnds, StoppedEnds, WroteMinima, StoppedMinima, decision_ending, fault_of_search};
+ghost use Rattle.four_lattice.specs.Run.{Finishes};
+ghost use Rattle.four_lattice.specs.Synth.{chosen_outputs, is_undecided};
+ghost use Rattle.four_lattice.specs.Uses.{pla_and_journal, most_pla_bytes};
+
+use crate::ending::{Ending, Finished, InputRefusal, Refusal};
+use crate::inputs::input_pla;
+use crate::lattices::{WorkFault, has_output};
+use area_search::fault::SearchFault;
+use area_search::least::search;
+use journal_text::writer::JournalWriter;
+use lattice_grid::rails::Rails;
+use pla_reader::pla::Pla;
+use report_text::answer::{Answer, Block};
+use report_text::write::{write_block, write_end, write_head};
+use std::alloc::Global;
+use wire_io::fault::Stopped;
+use wire_io::sink::Sink;
+use wire_io::source::Source;
+
+/// Whether answers are all decided.
+#[derive(Clone, Copy, Debug, PartialEq, Eq)]
+pub(crate) enum Decision {
+    Decided,
+    Undecided,
+}
+
+impl Decision {
+    /// Of an answer.
+    fn of(answer: &Answer) -> Decision
+        ensures { is_open result ≡ is_undecided answer.now }
+    {
+        match answer {
+            Answer::Undecided { .. } | Answer::MapUndecided { .. } => Decision::Undecided,
+            Answer::Found(_)
+            | Answer::Minimum(_)
+            | Answer::Mapped { .. }
+            | Answer::NoneMapped { .. }
+            | Answer::NoRails { .. } => Decision::Decided,
+        }
+    }
+
+    /// Of these answers and those.
+    fn and(self, other: Decision) -> Decision
+        ensures { is_open result ≡ (is_open self || is_open other) }
+    {
+        match self {
+            Decision::Decided => other,
+            Decision::Undecided => Decision::Undecided,
+        }
+    }
+
+    /// How a run ends whose work was done.
+    fn ending(self) -> Ending
+        ensures { result ≡ decision_ending self }
+    {
+        match self {
+            Decision::Decided => Ending::Done,
+            Decision::Undecided => Ending::Undecided,
+        }
+    }
+}
+
+/// What stops a command whose search stopped so.
+fn work_fault(fault: SearchFault) -> WorkFault
+    ensures { result ≡ fault_of_search fault }
+{
+    match fault {
+        SearchFault::Sink => WorkFault::Write,
+        SearchFault::NoMemory => WorkFault::NoMemory,
+    }
+}
+
+/// Searches the lattice of an output, and writes its questions and its answer to the journal.
+fn answer_output<K: Sink>(
+    alloc: Global,
+    pla: &Pla,
+    output: u32,
+    rails: Rails,
+    conflicts: u32,
+    writer: JournalWriter<K>,
+) -> Result<(Block, JournalWriter<K>), Stopped<WorkFault, K>>
+    requires pla { IsPla (parts_of pla.now) }
+    requires there { output < pla.now.outputs }
+    requires conflicts { conflicts ≤ 200000 }
+    requires whole { writer.failed ≡ false }
+    ensures whole { IfOk result (λ pair. pair.1.failed ≡ false) }
+    ensures answers { IfOk result (λ pair. AnswersOutput (asked rails conflicts (parts_of pla.now)) output (parts_of_block pair.0)
+        (change (K.got writer.sink) (K.faults writer.sink) (K.got pair.1.sink) (K.faults pair.1.sink))) }
+    ensures later { IfOk result (λ pair. K.faults writer.sink ≤ K.faults pair.1.sink) }
+    ensures cuts { IfErr result (λ stopped. CutsOutput (asked rails conflicts (parts_of pla.now)) output
+        (change (K.got writer.sink) (K.faults writer.sink) (K.got stopped.held) (K.faults stopped.held))) }
+    ensures cause { IfErr result (λ stopped. IsWriteCause (K.faults writer.sink) (K.faults stopped.held) stopped.fault) }
+    ensures cut_later { IfErr result (λ stopped. K.faults writer.sink ≤ K.faults stopped.held) }
+{
+    let place = output as usize;
+    let Ok(name) = pla.output_names.as_slice()[place].copy(alloc) else {
+        return Err(Stopped {
+            fault: WorkFault::NoMemory,
+            held: writer.into_sink(),
+        });
+    };
+    let (answer, proofs, mut writer) = match search(
+        alloc,
+        output,
+        &pla.specs[place],
+        rails,
+        conflicts,
+        writer,
+    ) {
+        Ok(found) => found,
+        Err(Stopped { fault, held }) => {
+            return Err(Stopped {
+                fault: work_fault(fault),
+                held,
+            });
+        }
+    };
+    let block = Block {
+        output,
+        name,
+        answer,
+        proofs,
+    };
+    if writer.answer(&block).is_err() {
+        return Err(Stopped {
+            fault: WorkFault::Write,
+            held: writer.into_sink(),
+        });
+    }
+    Ok((block, writer))
+}
+
+/// Answers for an output in the journal, and then writes its block.
+fn write_output<K: Sink>(
+    alloc: Global,
+    out: &mut K,
+    pla: &Pla,
+    output: u32,
+    rails: Rails,
+    conflicts: u32,
+    writer: JournalWriter<K>,
+) -> Result<(Decision, JournalWriter<K>), Stopped<WorkFault, K>>
+    requires pla { IsPla (parts_of pla.now) }
+    requires there { output < pla.now.outputs }
+    requires conflicts { conflicts ≤ 200000 }
+    requires whole { writer.failed ≡ false }
+    ensures whole { IfOk result (λ pair. pair.1.failed ≡ false) }
+    ensures wrote { IfOk result (λ pair. WroteOutput (asked rails conflicts (parts_of pla.now)) output pair.0
+        (change (K.got out.old) (K.faults out.old) (K.got out.new) (K.faults out.new))
+        (change (K.got writer.sink) (K.faults writer.sink) (K.got pair.1.sink) (K.faults pair.1.sink))) }
+    ensures stopped { IfErr result (λ stopped. StoppedOutput (asked rails conflicts (parts_of pla.now)) output stopped.fault
+        (change (K.got out.old) (K.faults out.old) (K.got out.new) (K.faults out.new))
+        (change (K.got writer.sink) (K.faults writer.sink) (K.got stopped.held) (K.faults stopped.held))) }
+{
+    let (block, writer) = answer_output(alloc, pla, output, rails, conflicts, writer)?;
+    if write_block(out, &block).is_err() {
+        return Err(Stopped {
+            fault: WorkFault::Write,
+            held: writer.into_sink(),
+        });
+    }
+    Ok((Decision::of(&block.answer), writer))
+}
+
+/// Answers for each output from `first` on that is below `end`, one after another.
+fn write_outputs<K: Sink>(
+    alloc: Global,
+    out: &mut K,
+    pla: &Pla,
+    first: u32,
+    end: u32,
+    rails: Rails,
+    conflicts: u32,
+    writer: JournalWriter<K>,
+) -> Result<(Decision, JournalWriter<K>), Stopped<WorkFault, K>>
+    requires pla { IsPla (parts_of pla.now) }
+    requires rising { first ≤ end }
+    requires there { end ≤ pla.now.outputs }
+    requires conflicts { conflicts ≤ 200000 }
+    requires whole { writer.failed ≡ false }
+    ensures whole { IfOk result (λ pair. pair.1.failed ≡ false) }
+    ensures wrote { IfOk result (λ pair. WroteBlocks (asked rails conflicts (parts_of pla.now)) (range_with_len first (end - first)) pair.0
+        (change (K.got out.old) (K.faults out.old) (K.got out.new) (K.faults out.new))
+        (change (K.got writer.sink) (K.faults writer.sink) (K.got pair.1.sink) (K.faults pair.1.sink))) }
+    ensures stopped { IfErr result (λ stopped. StoppedBlocks (asked rails conflicts (parts_of pla.now)) (range_with_len first (end - first)) stopped.fault
+        (change (K.got out.old) (K.faults out.old) (K.got out.new) (K.faults out.new))
+        (change (K.got writer.sink) (K.faults writer.sink) (K.got stopped.held) (K.faults stopped.held))) }
+{
+    let mut writer = writer;
+    let mut decision = Decision::Decided;
+    for output in first..end {
+        let (next, later) = write_output(alloc, out, pla, output, rails, conflicts, writer)?;
+        decision = decision.and(next);
+        writer = later;
+    }
+    Ok((decision, writer))
+}
+
+/// Answers for the chosen outputs.
+fn write_chosen<K: Sink>(
+    alloc: Global,
+    out: &mut K,
+    pla: &Pla,
+    output: Option<u32>,
+    rails: Rails,
+    conflicts: u32,
+    writer: JournalWriter<K>,
+) -> Result<(Decision, JournalWriter<K>), Stopped<WorkFault, K>>
+    requires pla { IsPla (parts_of pla.now) }
+    requires there { IsThere output pla.now.outputs }
+    requires conflicts { conflicts ≤ 200000 }
+    requires whole { writer.failed ≡ false }
+    ensures whole { IfOk result (λ pair. pair.1.failed ≡ false) }
+    ensures wrote { IfOk result (λ pair. WroteBlocks (asked rails conflicts (parts_of pla.now)) (chosen_outputs output pla.now.outputs) pair.0
+        (change (K.got out.old) (K.faults out.old) (K.got out.new) (K.faults out.new))
+        (change (K.got writer.sink) (K.faults writer.sink) (K.got pair.1.sink) (K.faults pair.1.sink))) }
+    ensures stopped { IfErr result (λ stopped. StoppedBlocks (asked rails conflicts (parts_of pla.now)) (chosen_outputs output pla.now.outputs) stopped.fault
+        (change (K.got out.old) (K.faults out.old) (K.got out.new) (K.faults out.new))
+        (change (K.got writer.sink) (K.faults writer.sink) (K.got stopped.held) (K.faults stopped.held))) }
+{
+    match output {
+        None => {
+            let end = u32::from(pla.outputs);
+            write_outputs(alloc, out, pla, 0, end, rails, conflicts, writer)
+        }
+        Some(one) => write_outputs(alloc, out, pla, one, one + 1, rails, conflicts, writer),
+    }
+}
+
+/// Writes the last line of the journal, and then that of the report.
+fn write_ends<K: Sink>(out: &mut K, writer: JournalWriter<K>) -> Result<K, Stopped<WorkFault, K>>
+    requires whole { writer.failed ≡ false }
+    ensures ends { IfOk result (λ journal. WroteEnds
+        (change (K.got out.old) (K.faults out.old) (K.got out.new) (K.faults out.new))
+        (change (K.got writer.sink) (K.faults writer.sink) (K.got journal) (K.faults journal))) }
+    ensures stopped { IfErr result (λ stopped. StoppedEnds stopped.fault
+        (change (K.got out.old) (K.faults out.old) (K.got out.new) (K.faults out.new))
+        (change (K.got writer.sink) (K.faults writer.sink) (K.got stopped.held) (K.faults stopped.held))) }
+{
+    let journal = match writer.finish() {
+        Ok(journal) => journal,
+        Err(Stopped { fault: _, held }) => {
+            return Err(Stopped {
+                fault: WorkFault::Write,
+                held,
+            });
+        }
+    };
+    if write_end(out).is_err() {
+        return Err(Stopped {
+            fault: WorkFault::Write,
+            held: journal,
+        });
+    }
+    Ok(journal)
+}
+
+/// Writes the lines of the report before its blocks, and then those of the journal before its parts.
+fn write_heads<K: Sink>(
+    out: &mut K,
+    pla: &Pla,
+    rails: Rails,
+    journal: K,
+) -> Result<JournalWriter<K>, Stopped<WorkFault, K>>
+    requires pla { IsPla (parts_of pla.now) }
+    requires empty { IfSome (K.got journal) (λ bytes. bytes ≡ []) }
+    ensures whole { IfOk result (λ writer. writer.failed ≡ false) }
+    ensures heads { IfOk result (λ writer. WroteHeads rails (parts_of pla.now).input_names
+        (change (K.got out.old) (K.faults out.old) (K.got out.new) (K.faults out.new))
+        (change (K.got journal) (K.faults journal) (K.got writer.sink) (K.faults writer.sink))) }
+    ensures stopped { IfErr result (λ stopped. StoppedHeads rails (parts_of pla.now).input_names stopped.fault
+        (change (K.got out.old) (K.faults out.old) (K.got out.new) (K.faults out.new))
+        (change (K.got journal) (K.faults journal) (K.got stopped.held) (K.faults stopped.held))) }
+{
+    if write_head(out, &pla.input_names, rails.bits()).is_err() {
+        return Err(Stopped {
+            fault: WorkFault::Write,
+            held: journal,
+        });
+    }
+    match JournalWriter::begin(journal, rails) {
+        Ok(writer) => Ok(writer),
+        Err(Stopped { fault: _, held }) => Err(Stopped {
+            fault: WorkFault::Write,
+            held,
+        }),
+    }
+}
+
+/// Writes the report and the journal of the chosen outputs.
+fn write_minima<K: Sink>(
+    alloc: Global,
+    out: &mut K,
+    pla: &Pla,
+    output: Option<u32>,
+    rails: Rails,
+    conflicts: u32,
+    journal: K,
+) -> Result<(Decision, K), Stopped<WorkFault, K>>
+    requires pla { IsPla (parts_of pla.now) }
+    requires there { IsThere output pla.now.outputs }
+    requires conflicts { conflicts ≤ 200000 }
+    requires empty { IfSome (K.got journal) (λ bytes. bytes ≡ []) }
+    ensures wrote { IfOk result (λ pair. WroteMinima (asked rails conflicts (parts_of pla.now)) output pair.0
+        (change (K.got out.old) (K.faults out.old) (K.got out.new) (K.faults out.new))
+        (change (K.got journal) (K.faults journal) (K.got pair.1) (K.faults pair.1))) }
+    ensures stopped { IfErr result (λ stopped. StoppedMinima (asked rails conflicts (parts_of pla.now)) output stopped.fault
+        (change (K.got out.old) (K.faults out.old) (K.got out.new) (K.faults out.new))
+        (change (K.got journal) (K.faults journal) (K.got stopped.held) (K.faults stopped.held))) }
+{
+    let writer = write_heads(out, pla, rails, journal)?;
+    let (decision, writer) = write_chosen(alloc, out, pla, output, rails, conflicts, writer)?;
+    let journal = write_ends(out, writer)?;
+    Ok((decision, journal))
+}
+
+/// How the command `synth` ends.
+pub(crate) fn end_of_synth<S: Source, K: Sink>(
+    alloc: Global,
+    output: Option<u32>,
+    rails: Rails,
+    conflicts: u32,
+    pla: &mut S,
+    side: &mut S,
+    out: &mut K,
+    journal: K,
+) -> Finished<K>
+    requires conflicts { conflicts ≤ 200000 }
+    requires empty { IfSome (K.got journal) (λ bytes. bytes ≡ []) }
+    ensures finishes { Finishes (SynthComes IfSome rails conflicts output (record { pla = S.left pla.old; side = S.left side.old })) pla_and_journal most_pla_bytes result.ending
+        (record {
+          pla = change (S.left pla.old) (S.faults pla.old) (S.left pla.new) (S.faults pla.new);
+          side = change (S.left side.old) (S.faults side.old) (S.left side.new) (S.faults side.new);
+          out = change (K.got out.old) (K.faults out.old) (K.got out.new) (K.faults out.new);
+          journal = change (K.got journal) (K.faults journal) (K.got result.journal) (K.faults result.journal);
+        }) }
+    ensures side_same { side.new ≡ side.old }
+    ensures out_last { (out.new ≡ out.old) ⊎ IsGranted (SynthComes IfSome rails conflicts output (record { pla = S.left pla.old; side = S.left side.old })) }
+    ensures journal_last { (result.journal ≡ journal) ⊎ IsGranted (SynthComes IfSome rails conflicts output (record { pla = S.left pla.old; side = S.left side.old })) }
+{
+    let _ = &side;
+    let text = match input_pla(alloc, pla) {
+        Ok(text) => text,
+        Err(ending) => return Finished { ending, journal },
+    };
+    if !has_output(&text, output) {
+        return Finished {
+            ending: Ending::Refused(Refusal::Input(InputRefusal::NoSuchOutput)),
+            journal,
+        };
+    }
+    match write_minima(alloc, out, &text, output, rails, conflicts, journal) {
+        Ok((decision, journal)) => Finished {
+            ending: decision.ending(),
+            journal,
+        },
+        Err(Stopped { fault, held }) => Finished {
+            ending: fault.ending(),
+            journal: held,
+        },
+    }
+}
