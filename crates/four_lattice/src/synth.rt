@@ -16,6 +16,7 @@ use crate::inputs::input_pla;
 use crate::lattices::{WorkFault, has_output};
 use area_search::fault::SearchFault;
 use area_search::least::search;
+use finder_set::finder::Finder;
 use journal_text::writer::JournalWriter;
 use lattice_grid::rails::Rails;
 use pla_reader::pla::Pla;
@@ -108,12 +109,14 @@ fn answer_output<K: Sink>(
             held: writer.into_sink(),
         });
     };
-    let (answer, proofs, mut writer) = match search(
+    let mut finders: Vec<Box<dyn Finder>> = Vec::new(alloc);
+    let (answer, _, proofs, mut writer) = match search(
         alloc,
         output,
         &pla.specs[place],
         rails,
         conflicts,
+        &mut finders,
         writer,
     ) {
         Ok(found) => found,
