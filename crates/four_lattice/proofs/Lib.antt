@@ -16,3 +16,4 @@ pub mod CommandLaws
 pub mod SynthLists
 pub mod SynthLaws
 pub mod SynthFinish
+pub mod RejectedLaws

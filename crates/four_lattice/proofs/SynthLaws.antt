@@ -215,6 +215,17 @@ cuts-searched a k fault j0 j1 h l st = record {
 answer-text : (more : List Part) (block : BlockParts) → parts_text Two (more ++ Answered block ∷ []) ≡ parts_text Two more ++ block_text Two block
 answer-text more block = flat_map-append (part_text Two) more (Answered block ∷ []) ∙ ap (λ w. parts_text Two more ++ w) (append-nil (block_text Two block))
 
+-- the search was written, and no answer
+pub cuts-written : (a : Asked) (k : ℕ) (f : Function) (answer : Answer) (proofs : List Proof) (j0 j1 : Device) → IsAskedOf a → k < a.parts.outputs → Searched a.rails k f a.budget j0.told j1.told answer proofs → CutsOutput a k (between j0 j1)
+cuts-written a k f answer proofs j0 j1 h l s = record {
+  block = made a.parts k;
+  of = made-of a k h l;
+  more = s.more;
+  sections = s.are;
+  front = subst (GainsFront j0.told j1.told) (sym (flat_map-append (part_text Two) s.more (Answered (made a.parts k) ∷ [])))
+      (record { front = parts_text Two s.more; rest = parts_text Two (Answered (made a.parts k) ∷ []); whole = refl; gained = s.gained });
+}
+
 -- the answer was cut short
 pub cuts-answer : (a : Asked) (k : ℕ) (f : Function) (block : BlockParts) (j0 j1 j2 : Device) → IsBlockOf a k block → Searched a.rails k f a.budget j0.told j1.told block.answer block.proofs
     → GainsFront j1.told j2.told (block_text Two block) → CutsOutput a k (between j0 j2)
@@ -667,7 +678,7 @@ from-split first k end p q =
     let f : first + (k - first) ≡ k = omega (arith, p) in
     ap (range_with_len first) e ∙ range-split first (k - first) (suc (end - (k + 1))) ∙ ap (λ n. range_with_len first (k - first) ++ range_with_len n (suc (end - (k + 1)))) f
 
-from-more : (first k : ℕ) → first ≤ k → range_with_len first (k + 1 - first) ≡ range_with_len first (k - first) ++ k ∷ []
+pub from-more : (first k : ℕ) → first ≤ k → range_with_len first (k + 1 - first) ≡ range_with_len first (k - first) ++ k ∷ []
 from-more first k p =
     let e : k + 1 - first ≡ (k - first) + 1 = omega (arith, p) in
     let f : first + (k - first) ≡ k = omega (arith, p) in

@@ -12,5 +12,6 @@ pub mod Verified
 pub mod Synth
 pub mod Minima
 pub mod Work
+pub mod Rejected
 pub mod Run
 pub mod Laws

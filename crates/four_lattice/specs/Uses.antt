@@ -4,23 +4,24 @@ use Rattle.std.specs.declared.option.Option.{Option}
 use Rattle.four_lattice.specs.declared.words.Job.{Job}
 use Rattle.four_lattice.specs.declared.words.Job.TheVariants.{Pairs, Dual, Cnf, Verify, Check, Synth}
 
--- whether the standard input is read, and the side file, and whether a journal is written
+-- whether the standard input is read, and the side file, whether a journal is written, and finders are asked
 pub record Uses : Type 0 where
   pub pla : Bool
   pub side : Bool
   pub journal : Bool
+  pub finders : Bool
 
 abbrev pub nothing : Uses
-nothing = record { pla = false; side = false; journal = false }
+nothing = record { pla = false; side = false; journal = false; finders = false }
 
 abbrev pub pla_alone : Uses
-pla_alone = record { pla = true; side = false; journal = false }
+pla_alone = record { pla = true; side = false; journal = false; finders = false }
 
 abbrev pub pla_and_side : Uses
-pla_and_side = record { pla = true; side = true; journal = false }
+pla_and_side = record { pla = true; side = true; journal = false; finders = false }
 
-abbrev pub pla_and_journal : Uses
-pla_and_journal = record { pla = true; side = false; journal = true }
+abbrev pub pla_journal_and_finders : Uses
+pla_journal_and_finders = record { pla = true; side = false; journal = true; finders = true }
 
 -- the table of devices
 abbrev pub uses_of : Job → Uses
@@ -29,7 +30,7 @@ uses_of (Dual output) = pla_alone
 uses_of (Cnf output size) = pla_alone
 uses_of Verify = pla_and_side
 uses_of Check = pla_and_side
-uses_of (Synth conflicts output rails) = pla_and_journal
+uses_of (Synth conflicts output rails) = pla_journal_and_finders
 
 -- words that ask for no job use nothing
 abbrev pub uses : Option Job → Uses

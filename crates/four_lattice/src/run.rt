@@ -1,9 +1,10 @@
 //! The top call.
-ghost use Rattle.std.specs.Prelude.{◌≡◌, ◌⊎◌, ℕ, true, false, [], IfSome, Some};
+ghost use Rattle.std.specs.Prelude.{◌≡◌, ◌⊎◌, ℕ, ◌^◌, ◌<◌, true, false, [], IfSome, Some, vec_len};
 ghost use Rattle.wire_io.specs.Causes.{Device};
 ghost use Rattle.four_lattice.specs.Devices.{change};
 ghost use Rattle.four_lattice.specs.Judge.{Comes, JobComes, IsGranted, Opens};
 ghost use Rattle.four_lattice.specs.Laws.{IsOneJudgement};
+ghost use Rattle.four_lattice.specs.Rejected.{IsWorkDone, IsStatusOfWork, UsesFinders};
 ghost use Rattle.four_lattice.specs.Run.{job_asked, Finishes, FinishesAsked, Answers, AreJudged, SettlesRefusal, SettlesTask};
 ghost use Rattle.four_lattice.specs.Uses.{uses, uses_of, most_bytes, most_bytes_of};
 ghost use Rattle.four_lattice.specs.Words.{IsWithinBounds};
@@ -14,18 +15,20 @@ use crate::ending::{Ending, Finished, Refusal};
 use crate::lattices::{Construction, end_of_lattices};
 use crate::notes::write_note;
 use crate::status::Status;
-use crate::synth::end_of_synth;
+use crate::synth::{Rejected, end_of_synth};
 use crate::verify::end_of_verify;
 use crate::words::{Job, WordsFault, settings};
+use finder_set::finder::Finder;
 use std::alloc::Global;
 use wire_io::sink::Sink;
 use wire_io::source::Source;
 
-/// How a run ended, and the sink of the journal that it was given.
+/// How a run ended, the sink of the journal that it was given, and the proposals for which finders were dropped.
 #[derive(Drop)]
 pub struct Ended<K: Drop> {
     pub status: Status,
     pub journal: K,
+    pub dropped: Vec<Rejected>,
 }
 
 /// How a job ends.
@@ -35,10 +38,14 @@ fn end_of_job<S: Source, K: Sink>(
     pla: &mut S,
     side: &mut S,
     out: &mut K,
+    finders: &mut Vec<Box<dyn Finder>>,
+    rejected: &mut Vec<Rejected>,
     journal: K,
 ) -> Finished<K>
     requires within { IsWithinBounds job }
     requires empty { (uses_of job).journal ≡ true → IfSome (K.got journal) (λ bytes. bytes ≡ []) }
+    requires few { vec_len finders.old < 2 ^ 32 }
+    requires fresh { rejected.old.items ≡ [] }
     ensures finishes { Finishes (JobComes IfSome job (record { pla = S.left pla.old; side = S.left side.old })) (uses_of job) (most_bytes_of job) result.ending
         (record {
           pla = change (S.left pla.old) (S.faults pla.old) (S.left pla.new) (S.faults pla.new);
@@ -51,6 +58,8 @@ fn end_of_job<S: Source, K: Sink>(
     ensures journal_last { (result.journal ≡ journal) ⊎ IsGranted (JobComes IfSome job (record { pla = S.left pla.old; side = S.left side.old })) }
     ensures side_kept { (uses_of job).side ≡ false → side.new ≡ side.old }
     ensures journal_kept { (uses_of job).journal ≡ false → result.journal ≡ journal }
+    ensures finders_kept { (uses_of job).finders ≡ false → (finders.new ≡ finders.old) × (rejected.new ≡ rejected.old) }
+    ensures finders_used { IsWorkDone result.ending → (uses_of job).finders ≡ true → UsesFinders (JobComes IfSome job (record { pla = S.left pla.old; side = S.left side.old })) begun (λ finder. (Finder-box finder).left finder.value) finders.old.items finders.new.items rejected.new.items }
 {
     match job {
         Job::Pairs { output } => {
@@ -77,7 +86,9 @@ fn end_of_job<S: Source, K: Sink>(
             conflicts,
             output,
             rails,
-        } => end_of_synth(alloc, output, rails, conflicts, pla, side, out, journal),
+        } => end_of_synth(
+            alloc, output, rails, conflicts, pla, side, out, finders, rejected, journal,
+        ),
     }
 }
 
@@ -88,9 +99,13 @@ fn end_of_words<S: Source, K: Sink>(
     pla: &mut S,
     side: &mut S,
     out: &mut K,
+    finders: &mut Vec<Box<dyn Finder>>,
+    rejected: &mut Vec<Rejected>,
     journal: K,
 ) -> Finished<K>
     requires empty { (uses (job_asked words.now)).journal ≡ true → IfSome (K.got journal) (λ bytes. bytes ≡ []) }
+    requires few { vec_len finders.old < 2 ^ 32 }
+    requires fresh { rejected.old.items ≡ [] }
     ensures finishes { FinishesAsked (job_asked words.now) result.ending
         (record {
           pla = change (S.left pla.old) (S.faults pla.old) (S.left pla.new) (S.faults pla.new);
@@ -104,9 +119,11 @@ fn end_of_words<S: Source, K: Sink>(
     ensures pla_kept { (uses (job_asked words.now)).pla ≡ false → pla.new ≡ pla.old }
     ensures side_kept { (uses (job_asked words.now)).side ≡ false → side.new ≡ side.old }
     ensures journal_kept { (uses (job_asked words.now)).journal ≡ false → result.journal ≡ journal }
+    ensures finders_kept { (uses (job_asked words.now)).finders ≡ false → (finders.new ≡ finders.old) × (rejected.new ≡ rejected.old) }
+    ensures finders_used { IsWorkDone result.ending → (uses (job_asked words.now)).finders ≡ true → UsesFinders (Comes IfSome (job_asked words.now) (record { pla = S.left pla.old; side = S.left side.old })) begun (λ finder. (Finder-box finder).left finder.value) finders.old.items finders.new.items rejected.new.items }
 {
     match settings(alloc, words) {
-        Ok(job) => end_of_job(alloc, job, pla, side, out, journal),
+        Ok(job) => end_of_job(alloc, job, pla, side, out, finders, rejected, journal),
         Err(WordsFault::Refused) => Finished {
             ending: Ending::Refused(Refusal::Words),
             journal,
@@ -127,8 +144,10 @@ fn answer<S: Source, K: Sink + Drop>(
     out: &mut K,
     journal: K,
     notes: &mut K,
+    finders: &mut Vec<Box<dyn Finder>>,
 ) -> Ended<K>
     requires empty { (uses (job_asked words.now)).journal ≡ true → IfSome (K.got journal) (λ bytes. bytes ≡ []) }
+    requires few { vec_len finders.old < 2 ^ 32 }
     ensures answers { Answers (job_asked words.now) result.status
         (record {
           pla = change (S.left pla.old) (S.faults pla.old) (S.left pla.new) (S.faults pla.new);
@@ -143,12 +162,25 @@ fn answer<S: Source, K: Sink + Drop>(
     ensures out_last { (out.new ≡ out.old) ⊎ IsGranted (Comes IfSome (job_asked words.now) (record { pla = S.left pla.old; side = S.left side.old })) }
     ensures journal_last { (result.journal ≡ journal) ⊎ IsGranted (Comes IfSome (job_asked words.now) (record { pla = S.left pla.old; side = S.left side.old })) }
     ensures journal_kept { (uses (job_asked words.now)).journal ≡ false → result.journal ≡ journal }
+    ensures finders_kept { (uses (job_asked words.now)).finders ≡ false → (finders.new ≡ finders.old) × (result.dropped.items ≡ []) }
+    ensures finders_used { IsStatusOfWork result.status → (uses (job_asked words.now)).finders ≡ true → UsesFinders (Comes IfSome (job_asked words.now) (record { pla = S.left pla.old; side = S.left side.old })) begun (λ finder. (Finder-box finder).left finder.value) finders.old.items finders.new.items result.dropped.items }
 {
-    let Finished { ending, journal } = end_of_words(alloc, words, pla, side, out, journal);
+    let mut dropped = Vec::new(alloc);
+    let Finished { ending, journal } = end_of_words(
+        alloc,
+        words,
+        pla,
+        side,
+        out,
+        finders,
+        &mut dropped,
+        journal,
+    );
     let _ = write_note(notes, &ending);
     Ended {
         status: ending.status(),
         journal,
+        dropped,
     }
 }
 
@@ -163,9 +195,11 @@ pub fn run<S: Source, K: Sink + Drop>(
     out: &mut K,
     journal: K,
     notes: &mut K,
+    finders: &mut Vec<Box<dyn Finder>>,
 ) -> Ended<K>
-    // The journal got nothing yet, where the command writes one.
+    // The journal got nothing yet, where the command writes one; there are fewer than 4,294,967,296 finders.
     requires empty { (uses (job_asked words.now)).journal ≡ true → IfSome (K.got journal) (λ bytes. bytes ≡ []) }
+    requires few { vec_len finders.old < 2 ^ 32 }
     // The status of refused words comes exactly where the words are no command's, but for want of memory.
     ensures words { AreJudged (job_asked words.now) result.status }
     // Each status has its cause, what was written is the work of accepted texts, and the notes get their line.
@@ -202,8 +236,12 @@ pub fn run<S: Source, K: Sink + Drop>(
     ensures out_last { (out.new ≡ out.old) ⊎ IsGranted (Comes IfSome (job_asked words.now) (record { pla = S.left pla.old; side = S.left side.old })) }
     ensures journal_last { (result.journal ≡ journal) ⊎ IsGranted (Comes IfSome (job_asked words.now) (record { pla = S.left pla.old; side = S.left side.old })) }
     ensures journal_kept { (uses (job_asked words.now)).journal ≡ false → result.journal ≡ journal }
+    // Finders are left as they are by commands that do not ask them; those that ask drop each one that proposed a wrong smaller
+    // lattice, and ask the others to the end.
+    ensures finders_kept { (uses (job_asked words.now)).finders ≡ false → (finders.new ≡ finders.old) × (result.dropped.items ≡ []) }
+    ensures finders_used { IsStatusOfWork result.status → (uses (job_asked words.now)).finders ≡ true → UsesFinders (Comes IfSome (job_asked words.now) (record { pla = S.left pla.old; side = S.left side.old })) begun (λ finder. (Finder-box finder).left finder.value) finders.old.items finders.new.items result.dropped.items }
 {
-    answer(alloc, words, pla, side, out, journal, notes)
+    answer(alloc, words, pla, side, out, journal, notes, finders)
 }
 
 /// Told texts come to one judgement.

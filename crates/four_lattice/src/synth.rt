@@ -1,5 +1,5 @@
 //! The command `synth`.
-ghost use Rattle.std.specs.Prelude.{◌≡◌, ◌⊎◌, ℕ, ◌-◌, ◌<◌, ◌≤◌, ◌||◌, false, [], IfOk, IfErr, IfSome};
+ghost use Rattle.std.specs.Prelude.{◌≡◌, ◌⊎◌, ℕ, ◌-◌, ◌^◌, ◌<◌, ◌≤◌, ◌||◌, ◌++◌, false, [], map, vec_len, IfOk, IfErr, IfSome, OnOk};
 ghost use Rattle.std.specs.List.{range_with_len};
 ghost use Rattle.pla_reader.specs.Parts.{parts_of, IsPla};
 ghost use Rattle.report_text.specs.Report.{parts_of_block};
@@ -7,9 +7,10 @@ ghost use Rattle.four_lattice.specs.Devices.{change};
 ghost use Rattle.four_lattice.specs.Judge.{SynthComes, IsGranted};
 ghost use Rattle.four_lattice.specs.Lattices.{IsThere, IsWriteCause};
 ghost use Rattle.four_lattice.specs.Minima.{asked, is_open, AnswersOutput, CutsOutput, WroteOutput, StoppedOutput, WroteBlocks, StoppedBlocks, WroteHeads, StoppedHeads, WroteEnds, StoppedEnds, WroteMinima, StoppedMinima, decision_ending, fault_of_search};
+ghost use Rattle.four_lattice.specs.Rejected.{rejected_for, AreAskedWhereFull, AreUsedOnce, IsWorkDone, UsesFinders};
 ghost use Rattle.four_lattice.specs.Run.{Finishes};
 ghost use Rattle.four_lattice.specs.Synth.{chosen_outputs, is_undecided};
-ghost use Rattle.four_lattice.specs.Uses.{pla_and_journal, most_pla_bytes};
+ghost use Rattle.four_lattice.specs.Uses.{pla_journal_and_finders, most_pla_bytes};
 
 use crate::ending::{Ending, Finished, InputRefusal, Refusal};
 use crate::inputs::input_pla;
@@ -17,13 +18,15 @@ use crate::lattices::{WorkFault, has_output};
 use area_search::fault::SearchFault;
 use area_search::least::search;
 use finder_set::finder::Finder;
+use finder_set::improve::Dropped;
 use journal_text::writer::JournalWriter;
+use lattice_grid::grid::Grid;
 use lattice_grid::rails::Rails;
 use pla_reader::pla::Pla;
 use report_text::answer::{Answer, Block};
 use report_text::write::{write_block, write_end, write_head};
 use std::alloc::Global;
-use wire_io::fault::Stopped;
+use wire_io::fault::{NoMemory as OutOfMemory, Stopped};
 use wire_io::sink::Sink;
 use wire_io::source::Source;
 
@@ -70,6 +73,13 @@ impl Decision {
     }
 }
 
+/// A proposal for which a finder was dropped, and the output for which it was made.
+#[derive(Drop)]
+pub struct Rejected {
+    pub output: u32,
+    pub proposal: Grid,
+}
+
 /// What stops a command whose search stopped so.
 fn work_fault(fault: SearchFault) -> WorkFault
     ensures { result ≡ fault_of_search fault }
@@ -80,6 +90,23 @@ fn work_fault(fault: SearchFault) -> WorkFault
     }
 }
 
+/// Adds the proposals for which finders were dropped at an output.
+fn reject(
+    rejected: &mut Vec<Rejected>,
+    output: u32,
+    dropped: Vec<Dropped>,
+) -> Result<(), OutOfMemory>
+    ensures { OnOk result (rejected.new.items ≡ rejected.old.items ++ map (rejected_for output) dropped.items) }
+{
+    for entry in dropped {
+        rejected.push(Rejected {
+            output,
+            proposal: entry.proposal,
+        })?;
+    }
+    Ok(())
+}
+
 /// Searches the lattice of an output, and writes its questions and its answer to the journal.
 fn answer_output<K: Sink>(
     alloc: Global,
@@ -87,8 +114,11 @@ fn answer_output<K: Sink>(
     output: u32,
     rails: Rails,
     conflicts: u32,
+    finders: &mut Vec<Box<dyn Finder>>,
+    rejected: &mut Vec<Rejected>,
     writer: JournalWriter<K>,
 ) -> Result<(Block, JournalWriter<K>), Stopped<WorkFault, K>>
+    requires few { vec_len finders.old < 2 ^ 32 }
     requires pla { IsPla (parts_of pla.now) }
     requires there { output < pla.now.outputs }
     requires conflicts { conflicts ≤ 200000 }
@@ -101,6 +131,8 @@ fn answer_output<K: Sink>(
         (change (K.got writer.sink) (K.faults writer.sink) (K.got stopped.held) (K.faults stopped.held))) }
     ensures cause { IfErr result (λ stopped. IsWriteCause (K.faults writer.sink) (K.faults stopped.held) stopped.fault) }
     ensures cut_later { IfErr result (λ stopped. K.faults writer.sink ≤ K.faults stopped.held) }
+    ensures used { OnOk result (AreUsedOnce begun left rails (parts_of pla.now) output finders.old.items finders.new.items rejected.old.items rejected.new.items) }
+    ensures fewer { vec_len finders.new ≤ vec_len finders.old }
 {
     let place = output as usize;
     let Ok(name) = pla.output_names.as_slice()[place].copy(alloc) else {
@@ -109,14 +141,13 @@ fn answer_output<K: Sink>(
             held: writer.into_sink(),
         });
     };
-    let mut finders: Vec<Box<dyn Finder>> = Vec::new(alloc);
-    let (answer, _, proofs, mut writer) = match search(
+    let (answer, dropped, proofs, mut writer) = match search(
         alloc,
         output,
         &pla.specs[place],
         rails,
         conflicts,
-        &mut finders,
+        finders,
         writer,
     ) {
         Ok(found) => found,
@@ -127,6 +158,12 @@ fn answer_output<K: Sink>(
             });
         }
     };
+    if reject(rejected, output, dropped).is_err() {
+        return Err(Stopped {
+            fault: WorkFault::NoMemory,
+            held: writer.into_sink(),
+        });
+    }
     let block = Block {
         output,
         name,
@@ -150,8 +187,11 @@ fn write_output<K: Sink>(
     output: u32,
     rails: Rails,
     conflicts: u32,
+    finders: &mut Vec<Box<dyn Finder>>,
+    rejected: &mut Vec<Rejected>,
     writer: JournalWriter<K>,
 ) -> Result<(Decision, JournalWriter<K>), Stopped<WorkFault, K>>
+    requires few { vec_len finders.old < 2 ^ 32 }
     requires pla { IsPla (parts_of pla.now) }
     requires there { output < pla.now.outputs }
     requires conflicts { conflicts ≤ 200000 }
@@ -163,8 +203,12 @@ fn write_output<K: Sink>(
     ensures stopped { IfErr result (λ stopped. StoppedOutput (asked rails conflicts (parts_of pla.now)) output stopped.fault
         (change (K.got out.old) (K.faults out.old) (K.got out.new) (K.faults out.new))
         (change (K.got writer.sink) (K.faults writer.sink) (K.got stopped.held) (K.faults stopped.held))) }
+    ensures used { OnOk result (AreUsedOnce begun left rails (parts_of pla.now) output finders.old.items finders.new.items rejected.old.items rejected.new.items) }
+    ensures fewer { vec_len finders.new ≤ vec_len finders.old }
 {
-    let (block, writer) = answer_output(alloc, pla, output, rails, conflicts, writer)?;
+    let (block, writer) = answer_output(
+        alloc, pla, output, rails, conflicts, finders, rejected, writer,
+    )?;
     if write_block(out, &block).is_err() {
         return Err(Stopped {
             fault: WorkFault::Write,
@@ -183,8 +227,12 @@ fn write_outputs<K: Sink>(
     end: u32,
     rails: Rails,
     conflicts: u32,
+    finders: &mut Vec<Box<dyn Finder>>,
+    rejected: &mut Vec<Rejected>,
     writer: JournalWriter<K>,
 ) -> Result<(Decision, JournalWriter<K>), Stopped<WorkFault, K>>
+    requires few { vec_len finders.old < 2 ^ 32 }
+    requires fresh { rejected.old.items ≡ [] }
     requires pla { IsPla (parts_of pla.now) }
     requires rising { first ≤ end }
     requires there { end ≤ pla.now.outputs }
@@ -197,11 +245,15 @@ fn write_outputs<K: Sink>(
     ensures stopped { IfErr result (λ stopped. StoppedBlocks (asked rails conflicts (parts_of pla.now)) (range_with_len first (end - first)) stopped.fault
         (change (K.got out.old) (K.faults out.old) (K.got out.new) (K.faults out.new))
         (change (K.got writer.sink) (K.faults writer.sink) (K.got stopped.held) (K.faults stopped.held))) }
+    ensures used { OnOk result (AreAskedWhereFull begun left rails (parts_of pla.now) (range_with_len first (end - first)) finders.old.items finders.new.items rejected.new.items) }
+    ensures fewer { vec_len finders.new ≤ vec_len finders.old }
 {
     let mut writer = writer;
     let mut decision = Decision::Decided;
     for output in first..end {
-        let (next, later) = write_output(alloc, out, pla, output, rails, conflicts, writer)?;
+        let (next, later) = write_output(
+            alloc, out, pla, output, rails, conflicts, finders, rejected, writer,
+        )?;
         decision = decision.and(next);
         writer = later;
     }
@@ -216,8 +268,12 @@ fn write_chosen<K: Sink>(
     output: Option<u32>,
     rails: Rails,
     conflicts: u32,
+    finders: &mut Vec<Box<dyn Finder>>,
+    rejected: &mut Vec<Rejected>,
     writer: JournalWriter<K>,
 ) -> Result<(Decision, JournalWriter<K>), Stopped<WorkFault, K>>
+    requires few { vec_len finders.old < 2 ^ 32 }
+    requires fresh { rejected.old.items ≡ [] }
     requires pla { IsPla (parts_of pla.now) }
     requires there { IsThere output pla.now.outputs }
     requires conflicts { conflicts ≤ 200000 }
@@ -229,13 +285,28 @@ fn write_chosen<K: Sink>(
     ensures stopped { IfErr result (λ stopped. StoppedBlocks (asked rails conflicts (parts_of pla.now)) (chosen_outputs output pla.now.outputs) stopped.fault
         (change (K.got out.old) (K.faults out.old) (K.got out.new) (K.faults out.new))
         (change (K.got writer.sink) (K.faults writer.sink) (K.got stopped.held) (K.faults stopped.held))) }
+    ensures used { OnOk result (AreAskedWhereFull begun left rails (parts_of pla.now) (chosen_outputs output pla.now.outputs) finders.old.items finders.new.items rejected.new.items) }
+    ensures fewer { vec_len finders.new ≤ vec_len finders.old }
 {
     match output {
         None => {
             let end = u32::from(pla.outputs);
-            write_outputs(alloc, out, pla, 0, end, rails, conflicts, writer)
+            write_outputs(
+                alloc, out, pla, 0, end, rails, conflicts, finders, rejected, writer,
+            )
         }
-        Some(one) => write_outputs(alloc, out, pla, one, one + 1, rails, conflicts, writer),
+        Some(one) => write_outputs(
+            alloc,
+            out,
+            pla,
+            one,
+            one + 1,
+            rails,
+            conflicts,
+            finders,
+            rejected,
+            writer,
+        ),
     }
 }
 
@@ -307,8 +378,12 @@ fn write_minima<K: Sink>(
     output: Option<u32>,
     rails: Rails,
     conflicts: u32,
+    finders: &mut Vec<Box<dyn Finder>>,
+    rejected: &mut Vec<Rejected>,
     journal: K,
 ) -> Result<(Decision, K), Stopped<WorkFault, K>>
+    requires few { vec_len finders.old < 2 ^ 32 }
+    requires fresh { rejected.old.items ≡ [] }
     requires pla { IsPla (parts_of pla.now) }
     requires there { IsThere output pla.now.outputs }
     requires conflicts { conflicts ≤ 200000 }
@@ -319,9 +394,13 @@ fn write_minima<K: Sink>(
     ensures stopped { IfErr result (λ stopped. StoppedMinima (asked rails conflicts (parts_of pla.now)) output stopped.fault
         (change (K.got out.old) (K.faults out.old) (K.got out.new) (K.faults out.new))
         (change (K.got journal) (K.faults journal) (K.got stopped.held) (K.faults stopped.held))) }
+    ensures used { OnOk result (AreAskedWhereFull begun left rails (parts_of pla.now) (chosen_outputs output pla.now.outputs) finders.old.items finders.new.items rejected.new.items) }
+    ensures fewer { vec_len finders.new ≤ vec_len finders.old }
 {
     let writer = write_heads(out, pla, rails, journal)?;
-    let (decision, writer) = write_chosen(alloc, out, pla, output, rails, conflicts, writer)?;
+    let (decision, writer) = write_chosen(
+        alloc, out, pla, output, rails, conflicts, finders, rejected, writer,
+    )?;
     let journal = write_ends(out, writer)?;
     Ok((decision, journal))
 }
@@ -335,17 +414,22 @@ pub(crate) fn end_of_synth<S: Source, K: Sink>(
     pla: &mut S,
     side: &mut S,
     out: &mut K,
+    finders: &mut Vec<Box<dyn Finder>>,
+    rejected: &mut Vec<Rejected>,
     journal: K,
 ) -> Finished<K>
     requires conflicts { conflicts ≤ 200000 }
     requires empty { IfSome (K.got journal) (λ bytes. bytes ≡ []) }
-    ensures finishes { Finishes (SynthComes IfSome rails conflicts output (record { pla = S.left pla.old; side = S.left side.old })) pla_and_journal most_pla_bytes result.ending
+    requires few { vec_len finders.old < 2 ^ 32 }
+    requires fresh { rejected.old.items ≡ [] }
+    ensures finishes { Finishes (SynthComes IfSome rails conflicts output (record { pla = S.left pla.old; side = S.left side.old })) pla_journal_and_finders most_pla_bytes result.ending
         (record {
           pla = change (S.left pla.old) (S.faults pla.old) (S.left pla.new) (S.faults pla.new);
           side = change (S.left side.old) (S.faults side.old) (S.left side.new) (S.faults side.new);
           out = change (K.got out.old) (K.faults out.old) (K.got out.new) (K.faults out.new);
           journal = change (K.got journal) (K.faults journal) (K.got result.journal) (K.faults result.journal);
         }) }
+    ensures used { IsWorkDone result.ending → UsesFinders (SynthComes IfSome rails conflicts output (record { pla = S.left pla.old; side = S.left side.old })) begun (λ finder. (Finder-box finder).left finder.value) finders.old.items finders.new.items rejected.new.items }
     ensures side_same { side.new ≡ side.old }
     ensures out_last { (out.new ≡ out.old) ⊎ IsGranted (SynthComes IfSome rails conflicts output (record { pla = S.left pla.old; side = S.left side.old })) }
     ensures journal_last { (result.journal ≡ journal) ⊎ IsGranted (SynthComes IfSome rails conflicts output (record { pla = S.left pla.old; side = S.left side.old })) }
@@ -361,7 +445,9 @@ pub(crate) fn end_of_synth<S: Source, K: Sink>(
             journal,
         };
     }
-    match write_minima(alloc, out, &text, output, rails, conflicts, journal) {
+    match write_minima(
+        alloc, out, &text, output, rails, conflicts, finders, rejected, journal,
+    ) {
         Ok((decision, journal)) => Finished {
             ending: decision.ending(),
             journal,

@@ -44,6 +44,7 @@ fn main(rt: HostRuntime) -> ExitCode {
     let mut out = HostSink::standard(&rt);
     let journal = HostSink::file(&rt, journal_path);
     let mut notes = HostSink::errors(&rt);
+    let mut finders = Vec::new(rt.alloc());
     let ended = run(
         rt.alloc(),
         &words,
@@ -52,6 +53,7 @@ fn main(rt: HostRuntime) -> ExitCode {
         &mut out,
         journal,
         &mut notes,
+        &mut finders,
     );
     ExitCode::from(ended.status.number())
 }

@@ -159,8 +159,16 @@ fn odd_parity_of_ten_inputs(rt: HostRuntime) -> Result<(), Fail> {
     let mut out = FirmSink::new(alloc, 150, 8192)?;
     let mut notes = FirmSink::new(alloc, 200, 1)?;
     let journal = FirmSink::new(alloc, 1, 1)?;
+    let mut finders = Vec::new(alloc);
     let ended = run(
-        alloc, &words, &mut pla, &mut side, &mut out, journal, &mut notes,
+        alloc,
+        &words,
+        &mut pla,
+        &mut side,
+        &mut out,
+        journal,
+        &mut notes,
+        &mut finders,
     );
     assert_eq!(rt; ended.status, Status::Done);
     assert_eq!(rt; notes.total(), 0);

@@ -51,8 +51,16 @@ fn try_fault(
     let mut out = MemorySink::new(alloc, 4000, 1, out_fails)?;
     let journal = MemorySink::new(alloc, 1, 1, Vec::new(alloc))?;
     let mut notes = MemorySink::new(alloc, 200, 7, Vec::new(alloc))?;
+    let mut finders = Vec::new(alloc);
     let ended = run(
-        alloc, &words, &mut pla, &mut side, &mut out, journal, &mut notes,
+        alloc,
+        &words,
+        &mut pla,
+        &mut side,
+        &mut out,
+        journal,
+        &mut notes,
+        &mut finders,
     );
     let (status, written, note) = match failing {
         Failing::Pla | Failing::Side => (Status::ReadFault, 0, "read fault\n"),

@@ -12,6 +12,8 @@ mod dual;
 #[cfg(test)]
 mod faults;
 #[cfg(test)]
+mod finders;
+#[cfg(test)]
 mod pairs;
 #[cfg(test)]
 mod row;

@@ -110,6 +110,7 @@ fn no_words(rt: HostRuntime) -> Result<(), Fail> {
     let mut out = FirmSink::new(alloc, 200, 7)?;
     let mut notes = FirmSink::new(alloc, 200, 1)?;
     let journal = FirmSink::new(alloc, 1, 1)?;
+    let mut finders = Vec::new(alloc);
     let ended = run(
         alloc,
         &[],
@@ -118,6 +119,7 @@ fn no_words(rt: HostRuntime) -> Result<(), Fail> {
         &mut out,
         journal,
         &mut notes,
+        &mut finders,
     );
     assert_eq!(rt; ended.status, Status::Words);
     assert_eq!(rt; ended.status.number(), 1);
@@ -136,8 +138,16 @@ fn a_source_that_fails(rt: HostRuntime) -> Result<(), Fail> {
     let mut out = MemorySink::new(alloc, 200, 7, Vec::new(alloc))?;
     let mut notes = MemorySink::new(alloc, 200, 1, Vec::new(alloc))?;
     let journal = MemorySink::new(alloc, 1, 1, Vec::new(alloc))?;
+    let mut finders = Vec::new(alloc);
     let ended = run(
-        alloc, &words, &mut pla, &mut side, &mut out, journal, &mut notes,
+        alloc,
+        &words,
+        &mut pla,
+        &mut side,
+        &mut out,
+        journal,
+        &mut notes,
+        &mut finders,
     );
     assert_eq!(rt; ended.status, Status::ReadFault);
     assert_eq!(rt; notes.bytes(), b"read fault\n".as_slice());
@@ -155,8 +165,16 @@ fn a_sink_that_fails(rt: HostRuntime) -> Result<(), Fail> {
     let mut out = MemorySink::new(alloc, 200, 1, vec![in alloc; 2]?)?;
     let mut notes = MemorySink::new(alloc, 200, 1, Vec::new(alloc))?;
     let journal = MemorySink::new(alloc, 1, 1, Vec::new(alloc))?;
+    let mut finders = Vec::new(alloc);
     let ended = run(
-        alloc, &words, &mut pla, &mut side, &mut out, journal, &mut notes,
+        alloc,
+        &words,
+        &mut pla,
+        &mut side,
+        &mut out,
+        journal,
+        &mut notes,
+        &mut finders,
     );
     assert_eq!(rt; ended.status, Status::WriteFault);
     assert_eq!(rt; out.bytes(), b"l".as_slice());
@@ -173,6 +191,7 @@ fn notes_that_fail(rt: HostRuntime) -> Result<(), Fail> {
     let mut out = MemorySink::new(alloc, 200, 1, Vec::new(alloc))?;
     let mut notes = MemorySink::new(alloc, 200, 1, vec![in alloc; 3]?)?;
     let journal = MemorySink::new(alloc, 1, 1, Vec::new(alloc))?;
+    let mut finders = Vec::new(alloc);
     let ended = run(
         alloc,
         &[],
@@ -181,6 +200,7 @@ fn notes_that_fail(rt: HostRuntime) -> Result<(), Fail> {
         &mut out,
         journal,
         &mut notes,
+        &mut finders,
     );
     assert_eq!(rt; ended.status, Status::Words);
     assert_eq!(rt; notes.bytes(), b"wo".as_slice());

@@ -34,8 +34,16 @@ pub fn try_row(rt: &impl Abort, alloc: Global, row: &Row) -> Result<(), Fail> {
     let mut out = FirmSink::new(alloc, 4000, 7)?;
     let mut notes = FirmSink::new(alloc, 200, 1)?;
     let journal = FirmSink::new(alloc, 1, 1)?;
+    let mut finders = Vec::new(alloc);
     let ended = run(
-        alloc, &words, &mut pla, &mut side, &mut out, journal, &mut notes,
+        alloc,
+        &words,
+        &mut pla,
+        &mut side,
+        &mut out,
+        journal,
+        &mut notes,
+        &mut finders,
     );
     assert_eq!(rt; ended.status, row.status);
     assert_eq!(rt; out.bytes(), row.out.as_bytes());

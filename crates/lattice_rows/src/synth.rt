@@ -28,8 +28,16 @@ fn try_row(rt: &impl Abort, alloc: Global, row: &Row) -> Result<(), Fail> {
     let mut out = FirmSink::new(alloc, 4000, 7)?;
     let journal = FirmSink::new(alloc, 400_000, 5)?;
     let mut notes = FirmSink::new(alloc, 200, 1)?;
+    let mut finders = Vec::new(alloc);
     let ended = run(
-        alloc, &words, &mut pla, &mut side, &mut out, journal, &mut notes,
+        alloc,
+        &words,
+        &mut pla,
+        &mut side,
+        &mut out,
+        journal,
+        &mut notes,
+        &mut finders,
     );
     assert_eq!(rt; ended.status, row.status);
     assert!(rt; out.bytes().starts_with(row.out[0].as_bytes()));
@@ -178,8 +186,16 @@ fn an_output_that_is_not_there(rt: HostRuntime) -> Result<(), Fail> {
     let mut out = FirmSink::new(alloc, 4000, 7)?;
     let journal = FirmSink::new(alloc, 1, 1)?;
     let mut notes = FirmSink::new(alloc, 200, 1)?;
+    let mut finders = Vec::new(alloc);
     let ended = run(
-        alloc, &words, &mut pla, &mut side, &mut out, journal, &mut notes,
+        alloc,
+        &words,
+        &mut pla,
+        &mut side,
+        &mut out,
+        journal,
+        &mut notes,
+        &mut finders,
     );
     assert_eq!(rt; ended.status, Status::Input);
     assert_eq!(rt; out.total(), 0);
@@ -197,8 +213,16 @@ fn a_journal_that_fails(rt: HostRuntime) -> Result<(), Fail> {
     let mut out = MemorySink::new(alloc, 4000, 1, Vec::new(alloc))?;
     let journal = MemorySink::new(alloc, 4000, 1, vec![in alloc; 2]?)?;
     let mut notes = MemorySink::new(alloc, 200, 1, Vec::new(alloc))?;
+    let mut finders = Vec::new(alloc);
     let ended = run(
-        alloc, &words, &mut pla, &mut side, &mut out, journal, &mut notes,
+        alloc,
+        &words,
+        &mut pla,
+        &mut side,
+        &mut out,
+        journal,
+        &mut notes,
+        &mut finders,
     );
     assert_eq!(rt; ended.status, Status::WriteFault);
     assert_eq!(rt; ended.journal.bytes(), b"l".as_slice());
@@ -216,8 +240,16 @@ fn an_input_that_fails(rt: HostRuntime) -> Result<(), Fail> {
     let mut out = MemorySink::new(alloc, 4000, 1, Vec::new(alloc))?;
     let journal = MemorySink::new(alloc, 4000, 1, Vec::new(alloc))?;
     let mut notes = MemorySink::new(alloc, 200, 1, Vec::new(alloc))?;
+    let mut finders = Vec::new(alloc);
     let ended = run(
-        alloc, &words, &mut pla, &mut side, &mut out, journal, &mut notes,
+        alloc,
+        &words,
+        &mut pla,
+        &mut side,
+        &mut out,
+        journal,
+        &mut notes,
+        &mut finders,
     );
     assert_eq!(rt; ended.status, Status::ReadFault);
     assert_eq!(rt; out.bytes().len(), 0);

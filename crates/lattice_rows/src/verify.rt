@@ -187,8 +187,16 @@ fn a_side_that_fails(rt: HostRuntime) -> Result<(), Fail> {
     let mut out = MemorySink::new(alloc, 200, 1, Vec::new(alloc))?;
     let mut notes = MemorySink::new(alloc, 200, 1, Vec::new(alloc))?;
     let journal = MemorySink::new(alloc, 1, 1, Vec::new(alloc))?;
+    let mut finders = Vec::new(alloc);
     let ended = run(
-        alloc, &words, &mut pla, &mut side, &mut out, journal, &mut notes,
+        alloc,
+        &words,
+        &mut pla,
+        &mut side,
+        &mut out,
+        journal,
+        &mut notes,
+        &mut finders,
     );
     assert_eq!(rt; ended.status, Status::ReadFault);
     assert_eq!(rt; out.bytes().len(), 0);

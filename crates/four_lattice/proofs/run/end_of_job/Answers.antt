@@ -17,3 +17,6 @@ returns-in-Check-clause-finishes g c = rw c.in-Check.is (c.end_of_check-ending.e
 
 pub returns-in-Synth-clause-finishes : goal.returns-in-Synth-clause-finishes
 returns-in-Synth-clause-finishes g c = rw c.in-Synth.is c.end_of_synth.ensures.finishes
+
+pub returns-in-Synth-clause-finders_used : goal.returns-in-Synth-clause-finders_used
+returns-in-Synth-clause-finders_used g c = rw c.in-Synth.is (λ done uses. c.end_of_synth.ensures.used done)

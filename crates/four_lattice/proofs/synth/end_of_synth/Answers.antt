@@ -46,3 +46,15 @@ pub returns-clause-journal_last : goal.returns-clause-journal_last
 returns-clause-journal_last g c =
     let there : IsThere c.args.output c.in-Ok.text.outputs = search rules in
     inr (Minima c.args.rails c.args.conflicts c.args.output (parts_of c.in-Ok.text), inr (parts_of c.in-Ok.text, c.in-Ok.ensures.reads, inr (there, refl)))
+
+pub returns-in-Ok-write_minima-clause-used : goal.returns-in-Ok-write_minima-clause-used
+returns-in-Ok-write_minima-clause-used g c done =
+    let there : IsThere c.args.output c.in-Ok.text.outputs = search rules in
+    record {
+      rails = c.args.rails;
+      budget = c.args.conflicts;
+      output = c.args.output;
+      parts = parts_of c.in-Ok.text;
+      accepted = inr (parts_of c.in-Ok.text, c.in-Ok.ensures.reads, inr (there, refl));
+      asked = c.in-Ok-write_minima.ensures.used;
+    }

@@ -1,9 +1,11 @@
 use Rattle.std.proofs.Common.{rules, arith, ◌≡◌, ◌≤◌}
+use Rattle.pla_reader.specs.Parts.{parts_of}
+use Rattle.four_lattice.proofs.RejectedLaws.{asked_none, asked_next}
 use Rattle.four_lattice.proofs.SynthLaws.{asked-of, outputs-none, outputs-more, outputs-stopped}
 use Rattle.four_lattice.proofs.synth.write_outputs.Goals as goal
 
 pub loop-output-init : goal.loop-output-init
-loop-output-init g c = record { wrote = outputs-none _ c.args.first _ _; whole = c.requires.whole }
+loop-output-init g c = record { wrote = outputs-none _ c.args.first _ _; whole = c.requires.whole; used = asked_none _ _ c.args.rails (parts_of c.args.pla.now) c.args.first _ _ c.requires.fresh; fewer = omega arith }
 
 pub returns-in_err-next-clause-stopped : goal.returns-in_err-next-clause-stopped
 returns-in_err-next-clause-stopped g c =
@@ -16,6 +18,8 @@ pub loop-output-preserved : goal.loop-output-preserved
 loop-output-preserved g c = record {
   wrote = outputs-more _ c.args.first c.loop-output.output c.loop-output.decision c.in_ok-next.next c.and-decision.result _ _ _ _ _ _ c.loop-output.auto.output c.and-decision.ensures c.loop-output.invariant.wrote c.in_ok-next.ensures.wrote;
   whole = c.in_ok-next.ensures.whole;
+  used = asked_next _ _ c.args.rails (parts_of c.args.pla.now) c.args.first c.loop-output.output _ _ _ _ _ c.requires.pla c.loop-output.auto.output c.loop-output.invariant.used c.in_ok-next.ensures.used;
+  fewer = (let before = c.loop-output.invariant.fewer in let now = c.write_output.ensures.fewer in omega arith);
 }
 
 pub returns-clause-wrote : goal.returns-clause-wrote
@@ -23,3 +27,9 @@ returns-clause-wrote g c =
     let l = c.loop-output.auto.output-end in let i = c.loop-output-test.false in let p = c.requires.rising in
     let same : c.loop-output.output ≡ c.args.end = omega (arith, l, i, p) in
     rw same at c.loop-output.invariant.wrote
+
+pub returns-clause-used : goal.returns-clause-used
+returns-clause-used g c =
+    let l = c.loop-output.auto.output-end in let i = c.loop-output-test.false in let p = c.requires.rising in
+    let same : c.loop-output.output ≡ c.args.end = omega (arith, l, i, p) in
+    rw same at c.loop-output.invariant.used
