@@ -1,4 +1,11 @@
 pub mod TextLaws
+pub mod WordsLaws
+pub mod FormLaws
 pub mod OriginLaws
 pub mod SectionLaws
 pub mod ShownLaws
+pub mod RunLaws
+pub mod VerdictLaws
+pub mod GivesLaws
+pub mod ReadLaws
+pub mod PartsLaws

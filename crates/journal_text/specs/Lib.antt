@@ -7,5 +7,7 @@ pub mod Origin
 pub mod Kept
 pub mod Bounds
 pub mod Calls
+pub mod Reading
+pub mod Lines
 pub mod Laws
 pub mod Shown

@@ -5,9 +5,15 @@ ghost use Rattle.journal_text.specs.Laws.{BeginsJournal, AddsSection, BeginsSect
 ghost use Rattle.journal_text.specs.Shown.{ExcludesBelow, ExcludesOnArray};
 
 pub mod fault;
+mod form;
+pub mod journal;
+mod lead;
 mod lines;
+pub mod read;
+pub mod refusal;
 pub mod section;
 pub mod target;
+mod text;
 #[cfg(test)]
 mod tests;
 pub mod writer;

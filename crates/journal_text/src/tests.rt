@@ -1,8 +1,11 @@
-ghost use Rattle.std.specs.Prelude.{IsTrue};
+ghost use Rattle.std.specs.Prelude.{IsTrue, ◌≤◌, length};
 ghost use Rattle.journal_text.specs.Bounds.{MayStand};
 
 use crate::fault::JournalFault;
-use crate::target::Target;
+use crate::journal::{Part, PartKind, SectionText};
+use crate::read::read_journal;
+use crate::refusal::JournalRefusal;
+use crate::target::{Close, Target};
 use crate::writer::JournalWriter;
 use clause_core::read::read_cnf;
 use clause_core::valuation::Valuation;
@@ -128,4 +131,222 @@ fn a_sink_that_fails(rt: HostRuntime) -> Result<(), Fail> {
         b"lattice journal 2\nrails 1048575\nquestion 0".as_slice()
     );
     Ok(())
+}
+
+/// The journal of exclusive or, where the search asks for one size, and for an array that it gives up.
+const EXCLUSIVE_OR: &[u8] =
+    b"lattice journal 2\nrails 1048575\nquestion 0 1x2\n12 1 -2 0 3 5 0\n13 0 12 1 0\nrefuted\nquestion 63 2x2 ../co\nspent 200000\noutput 0 f0 minimum 2x2\nx0 x1\nx1' x0'\nrefuted 1x2:1 2x1:1 1x3:1 3x1:1\nend\n";
+
+/// The question that a part is.
+fn question(part: &Part) -> Option<&SectionText> {
+    match &part.what {
+        PartKind::Question(section) => Some(section),
+        PartKind::Answer(_) => None,
+    }
+}
+
+#[test]
+fn a_journal_is_read(rt: HostRuntime) -> Result<(), Fail> {
+    let journal = read_journal(rt.alloc(), EXCLUSIVE_OR)
+        .ok()
+        .ok_or("the text spells a journal")?;
+    assert_eq!(rt; journal.version, Version::Two);
+    assert_eq!(rt; journal.rails, 1_048_575);
+    let [first, second, third] = journal.parts.as_slice() else {
+        return Err(Fail::from("three parts"));
+    };
+    assert_eq!(rt; first.line, 3);
+    assert_eq!(rt; second.line, 7);
+    assert_eq!(rt; third.line, 9);
+    let section = question(first).ok_or("a question")?;
+    assert_eq!(rt; section.output, 0);
+    assert_eq!(rt; section.close, Close::Refuted);
+    assert_eq!(rt; section.close_line, 6);
+    let [one, other] = section.steps.as_slice() else {
+        return Err(Fail::from("two steps"));
+    };
+    assert_eq!(rt; one.line, 4);
+    assert_eq!(rt; one.step.id, 12);
+    assert_eq!(rt; one.step.hints.as_slice().len(), 2);
+    assert_eq!(rt; other.line, 5);
+    let section = question(second).ok_or("a question")?;
+    assert_eq!(rt; section.output, 63);
+    assert_eq!(rt; section.steps.len(), 0);
+    assert_eq!(rt; section.close, Close::Spent(200_000));
+    assert_eq!(rt; section.close_line, 8);
+    assert!(rt; question(third).is_none());
+    Ok(())
+}
+
+#[test]
+fn a_journal_of_the_first_version(rt: HostRuntime) -> Result<(), Fail> {
+    let text = b"lattice journal 1\noutput 0 f0 none 1x1 c\nquestion 0 128x256\nsatisfied\nend\n";
+    let journal = read_journal(rt.alloc(), text)
+        .ok()
+        .ok_or("the text spells a journal")?;
+    assert_eq!(rt; journal.version, Version::One);
+    assert_eq!(rt; journal.rails, 1_048_575);
+    let [first, second] = journal.parts.as_slice() else {
+        return Err(Fail::from("two parts"));
+    };
+    assert_eq!(rt; first.line, 2);
+    assert!(rt; question(first).is_none());
+    let section = question(second).ok_or("a question")?;
+    assert_eq!(rt; section.close, Close::Satisfied);
+    assert_eq!(rt; section.close_line, 4);
+    Ok(())
+}
+
+/// What a text is refused for.
+fn refusal(rt: &HostRuntime, text: &[u8]) -> Option<JournalRefusal>
+    requires { length text.now ≤ 536870912 }
+{
+    read_journal(rt.alloc(), text).err()
+}
+
+#[test]
+fn refusals_of_heads_and_ends(rt: HostRuntime) {
+    assert_eq!(rt;
+        refusal(&rt, b""),
+        Some(JournalRefusal::Truncated { line: 1 })
+    );
+    assert_eq!(rt;
+        refusal(&rt, b"lattice journal 2"),
+        Some(JournalRefusal::Truncated { line: 1 })
+    );
+    assert_eq!(rt;
+        refusal(&rt, b"lattice journal 3\n"),
+        Some(JournalRefusal::Header { line: 1 })
+    );
+    assert_eq!(rt;
+        refusal(&rt, b"lattice journal 2\nrails 1048576\n"),
+        Some(JournalRefusal::Rails { line: 2 })
+    );
+    assert_eq!(rt;
+        refusal(&rt, b"lattice journal 2\nend\n"),
+        Some(JournalRefusal::Rails { line: 2 })
+    );
+    assert_eq!(rt;
+        refusal(&rt, b"lattice journal 1\nend\n\n"),
+        Some(JournalRefusal::Trailing { line: 3 })
+    );
+    assert_eq!(rt;
+        refusal(&rt, b"lattice journal 1\nend"),
+        Some(JournalRefusal::Truncated { line: 2 })
+    );
+}
+
+#[test]
+fn refusals_outside_of_sections(rt: HostRuntime) {
+    let unknown: [&[u8]; 4] = [
+        b"lattice journal 1\n\n",
+        b"lattice journal 1\n03 0 0\n",
+        b"lattice journal 1\n-3 0 0\n",
+        b"lattice journal 1\nend\t\n",
+    ];
+    for text in unknown {
+        assert_eq!(rt;
+            refusal(&rt, text),
+            Some(JournalRefusal::Word { line: 2 })
+        );
+    }
+    let astray: [&[u8]; 4] = [
+        b"lattice journal 1\n0 0 0\n",
+        b"lattice journal 1\n99999999999 0 0\n",
+        b"lattice journal 1\nrefuted x\n",
+        b"lattice journal 1\nsatisfied\n",
+    ];
+    for text in astray {
+        assert_eq!(rt;
+            refusal(&rt, text),
+            Some(JournalRefusal::Order { line: 2 })
+        );
+    }
+    let questions: [&[u8]; 5] = [
+        b"lattice journal 1\nend x\n",
+        b"lattice journal 1\nquestion 64 1x1\n",
+        b"lattice journal 1\nquestion 0 128x257\n",
+        b"lattice journal 1\nquestion 0 1x2 .\n",
+        b"lattice journal 1\nquestion 0 1x2 .. \n",
+    ];
+    for text in questions {
+        assert_eq!(rt;
+            refusal(&rt, text),
+            Some(JournalRefusal::Question { line: 2 })
+        );
+    }
+}
+
+#[test]
+fn refusals_in_sections(rt: HostRuntime) {
+    assert_eq!(rt;
+        refusal(&rt, b"lattice journal 1\nquestion 0 1x1\n03 0 0\n"),
+        Some(JournalRefusal::Word { line: 3 })
+    );
+    let astray: [&[u8]; 3] = [
+        b"lattice journal 1\nquestion 0 1x1\nend x\n",
+        b"lattice journal 1\nquestion 0 1x1\nquestion\n",
+        b"lattice journal 1\nquestion 0 1x1\noutput\n",
+    ];
+    for text in astray {
+        assert_eq!(rt;
+            refusal(&rt, text),
+            Some(JournalRefusal::Order { line: 3 })
+        );
+    }
+    let closings: [&[u8]; 3] = [
+        b"lattice journal 1\nquestion 0 1x1\nrefuted x\n",
+        b"lattice journal 1\nquestion 0 1x1\nspent 200001\n",
+        b"lattice journal 1\nquestion 0 1x1\nspent\n",
+    ];
+    for text in closings {
+        assert_eq!(rt;
+            refusal(&rt, text),
+            Some(JournalRefusal::Question { line: 3 })
+        );
+    }
+    let steps: [&[u8]; 4] = [
+        b"lattice journal 1\nquestion 0 1x1\n0 0 0\n",
+        b"lattice journal 1\nquestion 0 1x1\n99999999999 0 0\n",
+        b"lattice journal 1\nquestion 0 1x1\n3 1 0 -1 0\n",
+        b"lattice journal 1\nquestion 0 1x1\n3 1  0 1 0\n",
+    ];
+    for text in steps {
+        assert_eq!(rt;
+            refusal(&rt, text),
+            Some(JournalRefusal::Step { line: 3 })
+        );
+    }
+    assert_eq!(rt;
+        refusal(&rt, b"lattice journal 1\nquestion 0 1x1\n3 0 1 0"),
+        Some(JournalRefusal::Truncated { line: 3 })
+    );
+}
+
+#[test]
+fn refusals_of_answers(rt: HostRuntime) {
+    let headings: [&[u8]; 4] = [
+        b"lattice journal 1\noutput 0 f found 1x1\nx10\n",
+        b"lattice journal 1\noutput 0 f found 1x1\n",
+        b"lattice journal 1\noutput 64 f found 1x1\n",
+        b"lattice journal 1\noutput 0 f norails 0 1\n",
+    ];
+    for text in headings {
+        assert_eq!(rt;
+            refusal(&rt, text),
+            Some(JournalRefusal::Block { line: 2 })
+        );
+    }
+    assert_eq!(rt;
+        refusal(&rt, b"lattice journal 1\noutput 0 f minimum 1x1\nend\n"),
+        Some(JournalRefusal::Block { line: 3 })
+    );
+    assert_eq!(rt;
+        refusal(&rt, b"lattice journal 2\nrails 0\noutput 0 f minimum 1x1\n0\nend\n"),
+        Some(JournalRefusal::Proofs { line: 5 })
+    );
+    assert_eq!(rt;
+        refusal(&rt, b"lattice journal 2\nrails 0\noutput 0 f none 1x1 c\n"),
+        Some(JournalRefusal::Truncated { line: 4 })
+    );
 }
