@@ -143,8 +143,11 @@ found_refused v bytes line rest here cut w says =
     outside_refused v bytes here (refusals.Block here) (answer_halts v bytes line rest here (faults.Block here) (λ e. absurd cc) cut w
     (elim (tested_found v line) [
       | inl found ↦ inl (found, refl)
-      | inr none ↦ inr (none, fault_of v bytes here (faults.Block here) (λ e. absurd cc)
-          (stops_here (Heading v) [] bytes line rest here cut (λ more x. none (says_by_heading line x.heading.output x.heading.name v x.heading.form x.is_heading x.words_are says))))
+      | inr none ↦ inr (
+        none,
+        fault_of v bytes here (faults.Block here) (λ e. absurd cc)
+            (stops_here (Heading v) [] bytes line rest here cut (λ more x. none (says_by_heading line x.heading.output x.heading.name v x.heading.form x.is_heading x.words_are says))),
+      )
     ]))
 
 pub answer_refused : (v : Version) (bytes line rest : List ℕ) (here : ℕ) (fault : BlockFault) (r : JournalRefusal) → Cuts 10 bytes line rest → first_word line ≡ codes "output" → (SaysFound line → ⊥) → (fault ≢ faults.NoMemory → IsBlockFault v bytes here fault)

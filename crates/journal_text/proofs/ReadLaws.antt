@@ -134,8 +134,17 @@ inside_refused bytes first steps rest number r h halts = λ j output target is f
     let lines = feeds-steps (steps_of steps) in
     let same = length-map steps (λ (l : StepLine). l.step) in
     let before_ = ap feeds none in
-    omega (arith, count, here, lines, same, before_, feeds-append (front_text j.version j.rails j.parts) (question_text output target ++ steps_text (steps_of steps)), feeds-append (question_text output target) (steps_text (steps_of steps)),
-    feeds-append (front_text j.version j.rails j.parts) (question_text output target))) in
+    omega (
+      arith,
+      count,
+      here,
+      lines,
+      same,
+      before_,
+      feeds-append (front_text j.version j.rails j.parts) (question_text output target ++ steps_text (steps_of steps)),
+      feeds-append (question_text output target) (steps_text (steps_of steps)),
+      feeds-append (front_text j.version j.rails j.parts) (question_text output target),
+    )) in
     record {
       place = Inside j output target (steps_of steps);
       bytes = rest;

@@ -326,9 +326,11 @@ step-line s =
 
 pub Without-step_line : (s : Step) → Without 10 (step_line s)
 Without-step_line s =
-    Without-append 10 (decimal s.id) (32 ∷ (literals_text s.clause ++ (48 ∷ 32 ∷ (hints_text s.hints ++ 48 ∷ [])))) (Without-decimal 10 s.id ten_apart)
-    ((λ e. omega (arith, e)), Without-append 10 (literals_text s.clause) (48 ∷ 32 ∷ (hints_text s.hints ++ 48 ∷ [])) (Without-literals s.clause)
-    ((λ e. omega (arith, e)), ((λ e. omega (arith, e)), Without-append 10 (hints_text s.hints) (48 ∷ []) (Without-hints s.hints) ((λ e. omega (arith, e)), tt))))
+    Without-append 10 (decimal s.id) (32 ∷ (literals_text s.clause ++ (48 ∷ 32 ∷ (hints_text s.hints ++ 48 ∷ [])))) (Without-decimal 10 s.id ten_apart) (
+      (λ e. omega (arith, e)),
+      Without-append 10 (literals_text s.clause) (48 ∷ 32 ∷ (hints_text s.hints ++ 48 ∷ [])) (Without-literals s.clause)
+          ((λ e. omega (arith, e)), ((λ e. omega (arith, e)), Without-append 10 (hints_text s.hints) (48 ∷ []) (Without-hints s.hints) ((λ e. omega (arith, e)), tt))),
+    )
 
 pub line_of_step : (s : Step) → IsWritten s → IsLineOf (step_line s) s
 line_of_step s h = record { is_step = h.is_step; text = step-line s }

@@ -50,7 +50,10 @@ fn lead_word(word: &[u8]) -> Lead
     if word == b"end".as_slice() {
         return Lead::End;
     }
-    if word == b"refuted".as_slice() || word == b"spent".as_slice() || word == b"satisfied".as_slice() {
+    if word == b"refuted".as_slice()
+        || word == b"spent".as_slice()
+        || word == b"satisfied".as_slice()
+    {
         return Lead::Closing;
     }
     if is_number(word) {

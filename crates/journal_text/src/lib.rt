@@ -13,9 +13,9 @@ pub mod read;
 pub mod refusal;
 pub mod section;
 pub mod target;
-mod text;
 #[cfg(test)]
 mod tests;
+mod text;
 pub mod writer;
 
 /// How what the calls write comes to the text of a journal.

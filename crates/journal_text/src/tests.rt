@@ -245,10 +245,7 @@ fn refusals_outside_of_sections(rt: HostRuntime) {
         b"lattice journal 1\nend\t\n",
     ];
     for text in unknown {
-        assert_eq!(rt;
-            refusal(&rt, text),
-            Some(JournalRefusal::Word { line: 2 })
-        );
+        assert_eq!(rt; refusal(&rt, text), Some(JournalRefusal::Word { line: 2 }));
     }
     let astray: [&[u8]; 4] = [
         b"lattice journal 1\n0 0 0\n",
@@ -257,10 +254,7 @@ fn refusals_outside_of_sections(rt: HostRuntime) {
         b"lattice journal 1\nsatisfied\n",
     ];
     for text in astray {
-        assert_eq!(rt;
-            refusal(&rt, text),
-            Some(JournalRefusal::Order { line: 2 })
-        );
+        assert_eq!(rt; refusal(&rt, text), Some(JournalRefusal::Order { line: 2 }));
     }
     let questions: [&[u8]; 5] = [
         b"lattice journal 1\nend x\n",
@@ -289,10 +283,7 @@ fn refusals_in_sections(rt: HostRuntime) {
         b"lattice journal 1\nquestion 0 1x1\noutput\n",
     ];
     for text in astray {
-        assert_eq!(rt;
-            refusal(&rt, text),
-            Some(JournalRefusal::Order { line: 3 })
-        );
+        assert_eq!(rt; refusal(&rt, text), Some(JournalRefusal::Order { line: 3 }));
     }
     let closings: [&[u8]; 3] = [
         b"lattice journal 1\nquestion 0 1x1\nrefuted x\n",
@@ -312,10 +303,7 @@ fn refusals_in_sections(rt: HostRuntime) {
         b"lattice journal 1\nquestion 0 1x1\n3 1  0 1 0\n",
     ];
     for text in steps {
-        assert_eq!(rt;
-            refusal(&rt, text),
-            Some(JournalRefusal::Step { line: 3 })
-        );
+        assert_eq!(rt; refusal(&rt, text), Some(JournalRefusal::Step { line: 3 }));
     }
     assert_eq!(rt;
         refusal(&rt, b"lattice journal 1\nquestion 0 1x1\n3 0 1 0"),
@@ -332,17 +320,17 @@ fn refusals_of_answers(rt: HostRuntime) {
         b"lattice journal 1\noutput 0 f norails 0 1\n",
     ];
     for text in headings {
-        assert_eq!(rt;
-            refusal(&rt, text),
-            Some(JournalRefusal::Block { line: 2 })
-        );
+        assert_eq!(rt; refusal(&rt, text), Some(JournalRefusal::Block { line: 2 }));
     }
     assert_eq!(rt;
         refusal(&rt, b"lattice journal 1\noutput 0 f minimum 1x1\nend\n"),
         Some(JournalRefusal::Block { line: 3 })
     );
     assert_eq!(rt;
-        refusal(&rt, b"lattice journal 2\nrails 0\noutput 0 f minimum 1x1\n0\nend\n"),
+        refusal(
+            &rt,
+            b"lattice journal 2\nrails 0\noutput 0 f minimum 1x1\n0\nend\n"
+        ),
         Some(JournalRefusal::Proofs { line: 5 })
     );
     assert_eq!(rt;
