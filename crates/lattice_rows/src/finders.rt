@@ -42,8 +42,9 @@ impl Finder for Same {
 
     fn propose(&mut self) -> Result<Option<Grid>, NoMemory> {
         self.left -= 1;
+        let cols = self.row.shape().cols();
         let cells = Vec::from_slice(self.alloc, self.row.row(0))?;
-        Ok(Shape::new(1, self.row.shape().cols()).and_then(|shape| Grid::new(shape, cells)))
+        Ok(Shape::new(1, cols).and_then(|shape| Grid::new(shape, cells)))
     }
 }
 
