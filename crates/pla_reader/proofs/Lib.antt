@@ -8,5 +8,6 @@ pub mod WordsLaws
 pub mod ReachLaws
 pub mod FinalLaws
 pub mod AnswersLaws
+pub mod SomeLaws
 pub mod PlainTextLaws
 pub mod PlainReadingLaws

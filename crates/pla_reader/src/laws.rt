@@ -1,5 +1,5 @@
 //! Laws on texts.
-ghost use Rattle.pla_reader.specs.Answers.{IsReadOneWay, IsRefusedOneWay, IsEither, IsPlainRead};
+ghost use Rattle.pla_reader.specs.Answers.{IsReadOneWay, IsRefusedOneWay, IsEither, IsReadOrRefused, IsPlainRead};
 
 /// A text is read as one value at most.
 pub fn one_reading()
@@ -14,6 +14,11 @@ pub fn one_refusal()
 /// No text is both read and refused.
 pub fn read_or_refused()
     ensures { IsEither }
+{}
+
+/// Each text is read or refused.
+pub fn some_reading()
+    ensures { IsReadOrRefused }
 {}
 
 /// A plain text is read as what it means.
