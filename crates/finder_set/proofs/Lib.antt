@@ -1,3 +1,6 @@
 mod Asking
+mod FoldLaws
 mod Ordering
+mod ShrinkingLaws
+mod SplitLaws
 pub mod Wider

@@ -2,6 +2,14 @@
 #![tactic(auto)]
 
 pub mod finder;
+pub mod fold;
+mod folded;
 pub mod improve;
+mod shrink;
+mod slot;
+mod split;
+pub mod split_and;
+pub mod split_or;
 #[cfg(test)]
 mod tests;
+pub mod trim;

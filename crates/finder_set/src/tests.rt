@@ -1,7 +1,11 @@
 ghost use Rattle.std.specs.Prelude.{◌≤◌};
 
 use crate::finder::Finder;
+use crate::fold::Fold;
 use crate::improve::improve;
+use crate::split_and::SplitAnd;
+use crate::split_or::SplitOr;
+use crate::trim::Trim;
 use cube_core::assign::Assign;
 use cube_core::spec::Spec;
 use cube_core::table::Table;
@@ -162,5 +166,101 @@ fn a_finder_of_larger_lattices_stays(rt: HostRuntime) -> Result<(), Fail> {
     assert_eq!(rt; finders[0].left(), 0);
     assert_eq!(rt; improved.dropped.len(), 1);
     assert_eq!(rt; improved.grid.shape().area(), 3);
+    Ok(())
+}
+
+#[test]
+fn a_row_that_is_not_needed_is_dropped(rt: HostRuntime) -> Result<(), Fail> {
+    let alloc = rt.alloc();
+    let spec = conjunction().ok_or("a function")?;
+    let best = pairs(alloc, &spec)?;
+    assert_eq!(rt; best.shape(), Shape::new(3, 1).ok_or("a shape")?);
+    let mut marks = Marks::new(alloc, best.shape().area())?;
+    let mut finders: Vec<Box<dyn Finder>> = Vec::new(alloc);
+    finders.push(Box::new(alloc, Trim::new(alloc))?)?;
+    let improved = improve(alloc, &mut finders, &spec, best, &mut marks)?;
+    assert_eq!(rt; finders.len(), 1);
+    assert_eq!(rt; improved.dropped.len(), 0);
+    assert_eq!(rt; improved.grid.shape(), Shape::new(2, 1).ok_or("a shape")?);
+    assert_eq!(rt; improved.grid.row(0), [Control::Plain(1)].as_slice());
+    assert_eq!(rt; improved.grid.row(1), [Control::Plain(0)].as_slice());
+    Ok(())
+}
+
+#[test]
+fn the_on_cover_is_parted(rt: HostRuntime) -> Result<(), Fail> {
+    let spec = exclusive_or().ok_or("a function")?;
+    let best = pairs(rt.alloc(), &spec)?;
+    let mut finder = SplitOr::new(rt.alloc());
+    finder.begin(&spec, &best)?;
+    assert_eq!(rt; finder.left(), 1);
+    let proposal = finder.propose()?.ok_or("a proposal")?;
+    assert_eq!(rt; proposal.shape().rows(), 2);
+    assert_eq!(rt;
+        proposal.row(0),
+        [Control::Plain(0), Control::Zero, Control::Plain(1)].as_slice()
+    );
+    assert_eq!(rt;
+        proposal.row(1),
+        [Control::Bar(1), Control::Zero, Control::Bar(0)].as_slice()
+    );
+    assert_eq!(rt; finder.left(), 0);
+    Ok(())
+}
+
+#[test]
+fn the_off_cover_is_parted(rt: HostRuntime) -> Result<(), Fail> {
+    let spec = exclusive_or().ok_or("a function")?;
+    let best = pairs(rt.alloc(), &spec)?;
+    let mut finder = SplitAnd::new(rt.alloc());
+    finder.begin(&spec, &best)?;
+    let proposal = finder.propose()?.ok_or("a proposal")?;
+    assert_eq!(rt; proposal.shape().rows(), 3);
+    assert_eq!(rt;
+        proposal.row(0),
+        [Control::Plain(0), Control::Plain(1)].as_slice()
+    );
+    assert_eq!(rt; proposal.row(1), [Control::One, Control::One].as_slice());
+    Ok(())
+}
+
+#[test]
+fn a_larger_lattice_of_parts_is_set_aside(rt: HostRuntime) -> Result<(), Fail> {
+    let alloc = rt.alloc();
+    let spec = exclusive_or().ok_or("a function")?;
+    let best = pairs(alloc, &spec)?;
+    let mut marks = Marks::new(alloc, best.shape().area())?;
+    let mut finders: Vec<Box<dyn Finder>> = Vec::new(alloc);
+    finders.push(Box::new(alloc, SplitOr::new(alloc))?)?;
+    let improved = improve(alloc, &mut finders, &spec, best, &mut marks)?;
+    assert_eq!(rt; finders.len(), 1);
+    assert_eq!(rt; improved.dropped.len(), 0);
+    assert_eq!(rt; improved.grid.shape(), Shape::new(2, 2).ok_or("a shape")?);
+    Ok(())
+}
+
+#[test]
+fn two_rows_become_one(rt: HostRuntime) -> Result<(), Fail> {
+    let spec = conjunction().ok_or("a function")?;
+    let best = pairs(rt.alloc(), &spec)?;
+    let mut finder = Fold::new(rt.alloc());
+    finder.begin(&spec, &best)?;
+    let proposal = finder.propose()?.ok_or("a proposal")?;
+    assert_eq!(rt; proposal.shape(), Shape::new(2, 1).ok_or("a shape")?);
+    assert_eq!(rt; proposal.row(0), [Control::Plain(0)].as_slice());
+    assert_eq!(rt; proposal.row(1), [Control::Plain(1)].as_slice());
+    Ok(())
+}
+
+#[test]
+fn nothing_can_be_dropped(rt: HostRuntime) -> Result<(), Fail> {
+    let spec = exclusive_or().ok_or("a function")?;
+    let best = pairs(rt.alloc(), &spec)?;
+    let mut finder = Trim::new(rt.alloc());
+    assert_eq!(rt; finder.left(), 0);
+    finder.begin(&spec, &best)?;
+    assert_eq!(rt; finder.left(), 1);
+    assert!(rt; finder.propose()?.is_none());
+    assert_eq!(rt; finder.left(), 0);
     Ok(())
 }
