@@ -1,7 +1,7 @@
 -- A text gives one answer, and gives some.
-use Rattle.std.proofs.Common.{◌≡◌, ◌≢◌, ℕ, suc, zero, ◌+◌, ◌<◌, ◌≤◌, ◌⊎◌, inl, inr, List, [], ◌∷◌, ◌++◌, length, refl, sym, ap, ◌∙◌, subst, arith, append_assoc, length-append, codes, Result, Ok, Err}
+use Rattle.std.proofs.Common.{◌≡◌, ◌≢◌, ℕ, suc, zero, ◌+◌, ◌≤◌, ◌⊎◌, inl, inr, List, [], ◌∷◌, ◌++◌, length, refl, sym, ap, ◌∙◌, subst, arith, append_assoc, length-append, codes, Result, Ok, Err}
 use Rattle.std.specs.Prelude.{MatchResult, IfOk, IfErr, IsErrOf}
-use Rattle.report_text.specs.Pieces.{Without, Cuts, feeds}
+use Rattle.report_text.specs.Pieces.{Cuts, feeds}
 use Rattle.report_text.specs.Reading.{IsFaulty, IsBlockFault, AreBlockLines}
 use Rattle.report_text.specs.Report.{Kind, Line, text_of}
 use Rattle.report_text.specs.Report.Kind.{OfHeading, OfCells, OfProofs}
@@ -14,11 +14,11 @@ use Rattle.journal_text.specs.Parts.{JournalParts, parts_of_journal}
 use Rattle.journal_text.specs.Reading.{Place, before, IsPlace, Next, next_at, IsAnswerFault, IsBadAnswer, HasMore, HasLine, Halts, IsRefused, Gives, HasLineNumbers, seen}
 use Rattle.journal_text.specs.Reading.Place.{AtTitle, AtRails, Outside, Inside}
 use Rattle.journal_text.specs.Reading.Next.{Title, RailsLine, PartOrEnd, StepOrClose}
-use Rattle.journal_text.specs.Text.{journal_text, front_text}
+use Rattle.journal_text.specs.Text.{journal_text}
 use Rattle.journal_text.specs.declared.journal.Journal.{Journal}
 use Rattle.journal_text.specs.declared.refusal.JournalRefusal.{JournalRefusal}
 use Rattle.journal_text.specs.declared.refusal.JournalRefusal.TheVariants as refusals
-use Rattle.journal_text.proofs.RunLaws.{Item, item_text, Allowed, move, moved, Stuck, one_place}
+use Rattle.journal_text.proofs.RunLaws.{item_text, move, moved, one_place}
 use Rattle.journal_text.proofs.VerdictLaws.{one_halt, stuck_halts, stuck_end, end_stands, Ends, decide, item_some}
 
 -- a journal ends behind its parts

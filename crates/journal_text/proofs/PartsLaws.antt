@@ -1,18 +1,16 @@
 -- Reading the parts of a journal one after another.
-use Rattle.std.proofs.Common.{◌≡◌, ◌≢◌, ℕ, suc, zero, ◌+◌, ◌-◌, ◌<◌, ◌≤◌, ◌⊎◌, inl, inr, Bool, true, false, cond, ◌==◌, List, [], ◌∷◌, ◌++◌, length, get_or, take, drop, map, refl, sym, ap, ◌∙◌, subst, arith, append_assoc, length-append, codes, None, Some}
+use Rattle.std.proofs.Common.{◌≡◌, ◌≢◌, ℕ, suc, ◌+◌, ◌-◌, ◌<◌, ◌≤◌, inl, inr, Bool, true, false, cond, ◌==◌, List, [], ◌∷◌, ◌++◌, length, get_or, take, drop, map, refl, sym, ap, ◌∙◌, subst, arith, append_assoc, length-append, codes}
 use Rattle.std.specs.Prelude.{All}
 use Rattle.std.specs.Fmt.{decimal}
-use Rattle.std.specs.List.{flat_map}
 use Rattle.std.proofs.lemmas.List.{append-nil, map_push, take_rest}
 use Rattle.std.proofs.lemmas.List.Concat.{flat_map-append}
 use Rattle.std.proofs.lemmas.List.Elements.{All-nil, All-push, All-append}
-use Rattle.lattice_grid.specs.Rectangle.{Size}
 use Rattle.report_text.specs.Bounds.{AreRails, IsBlock}
-use Rattle.report_text.specs.Expected.{Expected, Meets, IsHeading, block_expected}
+use Rattle.report_text.specs.Expected.{IsHeading, block_expected}
 use Rattle.report_text.specs.Expected.Expected.{Heading}
 use Rattle.report_text.specs.Pieces.{Without, Cuts, words, feeds}
 use Rattle.report_text.specs.Reading.{HasBlock, IsBlockFault}
-use Rattle.report_text.specs.Report.{BlockParts, HeadingParts, heading_words, heading_of, block_lines, block_text, lines_in, text_of, parts_of_block}
+use Rattle.report_text.specs.Report.{BlockParts, heading_words, block_lines, block_text, lines_in, text_of, parts_of_block}
 use Rattle.report_text.specs.declared.answer.Block.{Block}
 use Rattle.report_text.specs.declared.answer.Version.{Version}
 use Rattle.report_text.specs.declared.answer.Version.TheVariants.{One, Two}
@@ -26,16 +24,15 @@ use Rattle.report_text.proofs.FeedLaws.{feeds-append, feeds-none, feeds-line}
 use Rattle.report_text.proofs.MemberLaws.{block_lead, said_block, text_of-block}
 use Rattle.report_text.proofs.StopLaws.{stops_here}
 use Rattle.report_text.proofs.WholeLaws.{feeds-lines}
-use Rattle.journal_text.specs.Bounds.{IsTarget, IsClose, IsWritten, IsPart, IsJournal, MayStand}
+use Rattle.journal_text.specs.Bounds.{IsTarget, IsPart, IsJournal}
 use Rattle.journal_text.specs.Lines.{SaysFound, question_words, HasSteps, IsRefusedInside, refusal_for, IsRefusedBehind, IsPartAt, AreParts, first_number}
-use Rattle.journal_text.specs.Parts.{Part, JournalParts, part_of, section_of}
+use Rattle.journal_text.specs.Parts.{Part, part_of}
 use Rattle.journal_text.specs.Parts.Part.{Question, Answered}
-use Rattle.journal_text.specs.Reading.{first_word, IsQuestionLine, TellsFound, title_text, rails_text, Place, before, IsPlace, Next, next_at, Halts, IsRefused, IsNumbered, AreLined}
-use Rattle.journal_text.specs.Reading.Place.{AtTitle, AtRails, Outside, Inside}
-use Rattle.journal_text.specs.Reading.Next.{PartOrEnd, StepOrClose}
+use Rattle.journal_text.specs.Reading.{first_word, TellsFound, title_text, before, Halts, IsRefused, IsNumbered, AreLined}
+use Rattle.journal_text.specs.Reading.Place.{Outside, Inside}
+use Rattle.journal_text.specs.Reading.Next.{PartOrEnd}
 use Rattle.journal_text.specs.Text.{head_text, question_text, steps_text, close_text, section_text, part_text, parts_text, front_text, journal_text}
 use Rattle.journal_text.specs.declared.journal.Part.{Part as PartRead}
-use Rattle.journal_text.specs.declared.journal.PartKind.{PartKind}
 use Rattle.journal_text.specs.declared.journal.PartKind.TheVariants as kinds
 use Rattle.journal_text.specs.declared.journal.SectionText.{SectionText}
 use Rattle.journal_text.specs.declared.journal.StepLine.{StepLine}
@@ -44,11 +41,11 @@ use Rattle.journal_text.specs.declared.refusal.JournalRefusal.TheVariants as ref
 use Rattle.journal_text.specs.declared.target.Close.{Close}
 use Rattle.journal_text.specs.declared.target.Target.{Target}
 use Rattle.journal_text.proofs.OriginLaws.{Without-decimal}
-use Rattle.journal_text.proofs.ReadLaws.{behind_line, feeds-steps, length-steps, steps_of}
-use Rattle.journal_text.proofs.RunLaws.{Item, item_text, IsOneLine, one_question, one_close, answer_front, empty}
-use Rattle.journal_text.proofs.RunLaws.Item.{QuestionItem, CloseItem, AnswerItem}
+use Rattle.journal_text.proofs.ReadLaws.{feeds-steps, length-steps, steps_of}
+use Rattle.journal_text.proofs.RunLaws.{one_close, answer_front, empty}
+use Rattle.journal_text.proofs.RunLaws.Item.{QuestionItem, AnswerItem}
 use Rattle.journal_text.proofs.TextLaws.{front-none, joins_front}
-use Rattle.journal_text.proofs.VerdictLaws.{answer_halts, may_stand, tested_found, item_some}
+use Rattle.journal_text.proofs.VerdictLaws.{behind_line, answer_halts, may_stand, tested_found, item_some}
 use Rattle.journal_text.proofs.WordsLaws.{words_of_question, question_of_words}
 use Rattle.std.proofs.lemmas.List.{length-map}
 

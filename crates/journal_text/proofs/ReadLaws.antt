@@ -1,10 +1,8 @@
 -- Reading a journal line by line.
-use Rattle.std.proofs.Common.{◌≡◌, ◌≢◌, ℕ, suc, zero, ◌+◌, ◌-◌, ◌<◌, ◌≤◌, ◌⊎◌, inl, inr, List, [], ◌∷◌, ◌++◌, length, take, drop, map, refl, sym, ap, ◌∙◌, subst, arith, append_assoc, length-append, codes, None, Some}
+use Rattle.std.proofs.Common.{◌≡◌, ◌≢◌, ℕ, ◌+◌, ◌<◌, ◌≤◌, inl, List, [], ◌∷◌, ◌++◌, length, map, refl, sym, ap, ◌∙◌, subst, arith, append_assoc, length-append, codes}
 use Rattle.std.specs.Prelude.{All}
 use Rattle.std.specs.Fmt.{decimal}
-use Rattle.std.specs.List.{flat_map}
-use Rattle.std.proofs.lemmas.List.{append-nil, length-map, map_push, take_rest}
-use Rattle.std.proofs.lemmas.List.Concat.{flat_map-append}
+use Rattle.std.proofs.lemmas.List.{append-nil, length-map, map_push}
 use Rattle.std.proofs.lemmas.List.Elements.{All-nil, All-push}
 use Rattle.lrat_replay.specs.LratText.{step_text}
 use Rattle.lrat_replay.specs.StepRead.{IsLineOf}
@@ -13,30 +11,26 @@ use Rattle.report_text.specs.Bounds.{AreRails}
 use Rattle.report_text.specs.Pieces.{Without, Cuts, words, feeds}
 use Rattle.report_text.specs.declared.answer.Version.{Version}
 use Rattle.report_text.specs.declared.answer.Version.TheVariants.{One, Two}
-use Rattle.report_text.proofs.FeedLaws.{feeds-append, feeds-none, feeds-line}
-use Rattle.journal_text.specs.Bounds.{IsTarget, IsClose, IsWritten, IsPart, IsJournal}
+use Rattle.report_text.proofs.FeedLaws.{feeds-append, feeds-line}
+use Rattle.journal_text.specs.Bounds.{IsClose, IsWritten}
 use Rattle.journal_text.specs.Lines.{close_words, HaltsInside, HasSteps, IsRefusedInside}
-use Rattle.journal_text.specs.Parts.{JournalParts}
-use Rattle.journal_text.specs.Reading.{first_word, IsClosing, title_text, IsTitleLine, rails_text, Place, before, IsPlace, Next, next_at, Halts, IsRefused, AreNumbered}
-use Rattle.journal_text.specs.Reading.Place.{AtTitle, AtRails, Outside, Inside}
-use Rattle.journal_text.specs.Reading.Next.{Title, RailsLine, PartOrEnd, StepOrClose}
+use Rattle.journal_text.specs.Reading.{first_word, IsClosing, title_text, rails_text, before, Halts, IsRefused, AreNumbered}
+use Rattle.journal_text.specs.Reading.Place.{AtRails, Inside}
+use Rattle.journal_text.specs.Reading.Next.{StepOrClose}
 use Rattle.journal_text.specs.Text.{head_text, steps_text, close_text, question_text, front_text}
 use Rattle.journal_text.specs.declared.journal.StepLine.{StepLine}
 use Rattle.journal_text.specs.declared.refusal.JournalRefusal.{JournalRefusal}
 use Rattle.journal_text.specs.declared.refusal.JournalRefusal.TheVariants as refusals
 use Rattle.journal_text.specs.declared.target.Close.{Close}
-use Rattle.journal_text.specs.declared.target.Target.{Target}
-use Rattle.journal_text.proofs.RunLaws.{step_line, step-line, Without-step_line}
-use Rattle.journal_text.proofs.WordsLaws.{without_last, words_of_rails, rails_of_words, words_of_close, close_of_words}
+use Rattle.journal_text.proofs.RunLaws.{steps-more, Without-step_line}
+use Rattle.journal_text.proofs.VerdictLaws.{behind_line}
+use Rattle.journal_text.proofs.WordsLaws.{step_line, step-line, without_last, words_of_rails, rails_of_words, words_of_close}
 
 -- ---- the head
 
 pub no_title : (line : List ℕ) → line ≢ codes "lattice journal 1" → line ≢ codes "lattice journal 2" → (v : Version) → title_text v ≢ line ++ 10 ∷ []
 no_title line one two One e = one (without_last line (codes "lattice journal 1") 10 (sym e))
 no_title line one two Two e = two (without_last line (codes "lattice journal 2") 10 (sym e))
-
-pub behind_line : (bytes line rest text : List ℕ) → Cuts 10 bytes line rest → text ≡ line ++ 10 ∷ [] → bytes ≡ text ++ rest
-behind_line bytes line rest text cut e = cut.text ∙ sym (append_assoc line (10 ∷ []) rest) ∙ ap (λ z. z ++ rest) (sym e)
 
 pub no_rails : (bytes line rest : List ℕ) → Cuts 10 bytes line rest → ((n : ℕ) → n ≤ 1048575 → words line ≢ codes "rails" ∷ decimal n ∷ []) → IsRefused (title_text Two ++ bytes) (refusals.Rails 2)
 no_rails bytes line rest cut none =
@@ -74,16 +68,13 @@ numbered-push : (first : ℕ) (steps : List StepLine) (s : StepLine) → AreNumb
 numbered-push first [] s h e = (let same = e in omega (arith, same), tt)
 numbered-push first (t ∷ steps) s h e = (h.0, numbered-push (first + 1) steps s h.1 (let same = e in omega (arith, same)))
 
-steps-push : (steps : List Step) (s : Step) → steps_text (steps ++ s ∷ []) ≡ steps_text steps ++ step_text s.id s.clause s.hints
-steps-push steps s = flat_map-append (λ step. step_text step.id step.clause step.hints) steps (s ∷ []) ∙ ap (λ z. steps_text steps ++ z) (append-nil (step_text s.id s.clause s.hints))
-
 pub StepsRead-push : (bytes : List ℕ) (first : ℕ) (steps more : List StepLine) (rest line after : List ℕ) (number : ℕ) (s : Step) → StepsRead bytes first steps rest number → Cuts 10 rest line after → IsWritten s → IsLineOf line s
     → more ≡ steps ++ record { line = number; step = s } ∷ [] → StepsRead bytes first more after (number + 1)
 StepsRead-push bytes first steps more rest line after number s h cut written is e =
     subst (λ z. StepsRead bytes first z after (number + 1)) (sym e) (record {
       written = subst (All IsWritten) (sym (map_push (λ l. l.step) steps (record { line = number; step = s }))) (All-push IsWritten (steps_of steps) s h.written written);
       text = h.text ∙ ap (λ z. steps_text (steps_of steps) ++ z) (behind_line rest line after (step_text s.id s.clause s.hints) cut is.text)
-          ∙ sym (append_assoc (steps_text (steps_of steps)) (step_text s.id s.clause s.hints) after) ∙ ap (λ z. z ++ after) (sym (steps-push (steps_of steps) s))
+          ∙ sym (append_assoc (steps_text (steps_of steps)) (step_text s.id s.clause s.hints) after) ∙ ap (λ z. z ++ after) (sym (steps-more (steps_of steps) s))
           ∙ ap (λ z. steps_text z ++ after) (sym (map_push (λ l. l.step) steps (record { line = number; step = s })));
       numbered = numbered-push first steps (record { line = number; step = s }) h.numbered h.number_is;
       number_is = (let count = h.number_is in omega (arith, count, length-append steps (record { line = number; step = s } ∷ [])));

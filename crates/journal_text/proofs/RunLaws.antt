@@ -1,5 +1,5 @@
 -- A journal's text, item by item: what stands at a place is told by the bytes that follow.
-use Rattle.std.proofs.Common.{◌≡◌, ◌≢◌, ℕ, suc, zero, ◌+◌, ◌^◌, ◌<◌, ◌≤◌, ◌⊎◌, inl, inr, List, [], ◌∷◌, ◌++◌, length, get_or, map, refl, sym, ap, ◌∙◌, subst, arith, append_assoc, length-append, codes, ℤ}
+use Rattle.std.proofs.Common.{◌≡◌, ℕ, ◌<◌, ◌≤◌, ◌⊎◌, inl, inr, List, [], ◌∷◌, ◌++◌, length, map, refl, sym, ap, ◌∙◌, subst, arith, append_assoc, codes, ℤ}
 use Rattle.std.specs.Prelude.{All}
 use Rattle.std.specs.List.{AllByRecursion, flat_map, join_with_byte}
 use Rattle.std.specs.Fmt.{decimal, signed_decimal}
@@ -8,14 +8,12 @@ use Rattle.std.proofs.lemmas.List.Concat.{flat_map-append}
 use Rattle.std.proofs.lemmas.List.Elements.{All-nil, All-push, All-head, All-tail}
 use Rattle.clause_core.specs.Cnf.{literals_text}
 use Rattle.clause_core.specs.Literal.{Literal, signed}
-use Rattle.lrat_replay.specs.LratText.{hints_text, end_text, step_text}
+use Rattle.lrat_replay.specs.LratText.{hints_text, step_text}
 use Rattle.lrat_replay.specs.StepRead.{IsLineOf}
 use Rattle.lrat_replay.specs.declared.line.Step.{Step}
 use Rattle.report_text.specs.Bounds.{AreRails, IsBlock}
 use Rattle.report_text.specs.Pieces.{Without, Cuts, words}
-use Rattle.report_text.specs.Reading.{HasBlock}
-use Rattle.report_text.specs.Report.{BlockParts, Line, words_text, text_of, heading_words, heading_of, block_lines, block_text, lattice_lines, proofs_lines, line}
-use Rattle.report_text.specs.Report.Kind.{OfHeading}
+use Rattle.report_text.specs.Report.{BlockParts, words_text, text_of, heading_words, heading_of, block_lines, block_text, lattice_lines, proofs_lines, line}
 use Rattle.report_text.specs.Form.{form_of, lattice_of, lists}
 use Rattle.report_text.specs.declared.answer.Version.{Version}
 use Rattle.report_text.specs.declared.answer.Version.TheVariants.{One, Two}
@@ -24,10 +22,10 @@ use Rattle.report_text.proofs.FormLaws.{headings}
 use Rattle.report_text.proofs.JoinLaws.{pieces-join, Without-join}
 use Rattle.report_text.proofs.MemberLaws.{heading_of_block, text_of-block}
 use Rattle.report_text.proofs.PiecesLaws.{same_cut, Without-append}
-use Rattle.report_text.proofs.SpellLaws.{SpellsLine, Without-literal}
+use Rattle.report_text.proofs.SpellLaws.{Without-literal}
 use Rattle.journal_text.specs.Bounds.{IsTarget, IsClose, IsWritten, MayStand, IsPart, IsJournal}
 use Rattle.journal_text.specs.Lines.{IsLead, question_words, close_words}
-use Rattle.journal_text.specs.Parts.{Section, Part, JournalParts}
+use Rattle.journal_text.specs.Parts.{Part, JournalParts}
 use Rattle.journal_text.specs.Parts.Part.{Question, Answered}
 use Rattle.journal_text.specs.Reading.{first_word, title_text, rails_text, Place, before, IsPlace, Next, next_at}
 use Rattle.journal_text.specs.Reading.Place.{AtTitle, AtRails, Outside, Inside}
@@ -40,7 +38,7 @@ use Rattle.journal_text.specs.declared.target.Close.TheVariants.{Refuted, Spent,
 use Rattle.journal_text.specs.declared.target.Target.{Target}
 use Rattle.journal_text.proofs.OriginLaws.{Without-decimal, Without-signed}
 use Rattle.journal_text.proofs.TextLaws.{front-more, front-none, front-section}
-use Rattle.journal_text.proofs.WordsLaws.{first_is, one_lead, without_last, questions, question_line, closes, close_line, rails_spelled, rails_line, same_title, one_step, step_number, words_of_question, words_of_close, question_of_words}
+use Rattle.journal_text.proofs.WordsLaws.{first_is, one_lead, questions, question_line, closes, close_line, some_close, rails_spelled, rails_line, same_title, one_step, step_line, step-line, step_number}
 
 -- ---- items
 
@@ -135,7 +133,7 @@ runs_append p q r (i ∷ xs) ys x y = (x.0, runs_append (move p i) q r xs ys x.1
 
 -- ---- one item
 
-steps-more : (ss : List Step) (s : Step) → steps_text (ss ++ s ∷ []) ≡ steps_text ss ++ step_text s.id s.clause s.hints
+pub steps-more : (ss : List Step) (s : Step) → steps_text (ss ++ s ∷ []) ≡ steps_text ss ++ step_text s.id s.clause s.hints
 steps-more ss s = flat_map-append (λ step. step_text step.id step.clause step.hints) ss (s ∷ []) ∙ ap (λ z. steps_text ss ++ z) (append-nil (step_text s.id s.clause s.hints))
 
 journal_more : (j : JournalParts) (p : Part) → IsJournal j → IsPart j.version p → IsJournal (more_parts j p)
@@ -313,17 +311,6 @@ Without-hints (z ∷ hints) =
     Without-append 10 (signed_decimal z ++ 32 ∷ []) (hints_text hints)
     (Without-append 10 (signed_decimal z) (32 ∷ []) (Without-signed 10 z ten_apart (λ e. omega (arith, e))) ((λ e. omega (arith, e)), tt)) (Without-hints hints)
 
--- the line of a step, without its line feed
-abbrev pub step_line : Step → List ℕ
-step_line s = decimal s.id ++ 32 ∷ (literals_text s.clause ++ (48 ∷ 32 ∷ (hints_text s.hints ++ 48 ∷ [])))
-
-pub step-line : (s : Step) → step_text s.id s.clause s.hints ≡ step_line s ++ 10 ∷ []
-step-line s =
-    append_assoc (decimal s.id) (32 ∷ []) (literals_text s.clause ++ end_text s.hints)
-    ∙ ap (λ z. decimal s.id ++ 32 ∷ (literals_text s.clause ++ (48 ∷ 32 ∷ z))) (sym (append_assoc (hints_text s.hints) (48 ∷ []) (10 ∷ [])))
-    ∙ ap (λ z. decimal s.id ++ 32 ∷ z) (sym (append_assoc (literals_text s.clause) (48 ∷ 32 ∷ (hints_text s.hints ++ 48 ∷ [])) (10 ∷ [])))
-    ∙ sym (append_assoc (decimal s.id) (32 ∷ (literals_text s.clause ++ (48 ∷ 32 ∷ (hints_text s.hints ++ 48 ∷ [])))) (10 ∷ []))
-
 pub Without-step_line : (s : Step) → Without 10 (step_line s)
 Without-step_line s =
     Without-append 10 (decimal s.id) (32 ∷ (literals_text s.clause ++ (48 ∷ 32 ∷ (hints_text s.hints ++ 48 ∷ [])))) (Without-decimal 10 s.id ten_apart) (
@@ -407,14 +394,9 @@ det_question m n t u X Y p q e =
     (question_line m t) (question_line n u) e in
     (ap (λ z. QuestionItem z.0 z.1) (questions.same (m, t) (n, u) p q found.0), found.1)
 
-some_words : (c : Close) → 0 < length (close_words c)
-some_words Refuted = omega arith
-some_words (Spent n) = omega arith
-some_words Satisfied = omega arith
-
 det_close : (c d : Close) (X Y : List ℕ) → IsClose c → IsClose d → close_text c ++ X ≡ close_text d ++ Y → (CloseItem c ≡ CloseItem d) × (X ≡ Y)
 det_close c d X Y p q e =
-    let found = det_words (close_words c) (close_words d) (close_text c) (close_text d) X Y (λ at k. closes.plain at k c p) (λ at k. closes.plain at k d q) (some_words c) (some_words d) (close_line c) (close_line d) e in
+    let found = det_words (close_words c) (close_words d) (close_text c) (close_text d) X Y (λ at k. closes.plain at k c p) (λ at k. closes.plain at k d q) (some_close c) (some_close d) (close_line c) (close_line d) e in
     (ap CloseItem (closes.same c d p q found.0), found.1)
 
 det_step : (s t : Step) (X Y : List ℕ) → IsWritten s → IsWritten t → step_text s.id s.clause s.hints ++ X ≡ step_text t.id t.clause t.hints ++ Y → (StepItem s ≡ StepItem t) × (X ≡ Y)

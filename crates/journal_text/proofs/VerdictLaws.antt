@@ -1,11 +1,11 @@
 -- What the first faulty line is refused for: one thing, and something.
-use Rattle.std.proofs.Common.{◌≡◌, ◌≢◌, ℕ, suc, zero, ◌+◌, ◌<◌, ◌≤◌, ◌⊎◌, inl, inr, List, [], ◌∷◌, ◌++◌, length, refl, sym, ap, ◌∙◌, subst, arith, append_assoc, length-append, codes}
+use Rattle.std.proofs.Common.{◌≡◌, ◌≢◌, ℕ, ◌+◌, ◌≤◌, ◌⊎◌, inl, inr, List, [], ◌∷◌, ◌++◌, length, refl, sym, ap, ◌∙◌, subst, arith, append_assoc, length-append, codes}
 use Rattle.lattice_grid.specs.Rectangle.{Size}
 use Rattle.report_text.specs.Bounds.{IsBlock}
 use Rattle.report_text.specs.Expected.{IsForm, IsHeading}
 use Rattle.report_text.specs.Form.{form_of, Has}
 use Rattle.report_text.specs.Pieces.{Without, Cuts, words}
-use Rattle.report_text.specs.Reading.{HasBlock, IsBlockFault}
+use Rattle.report_text.specs.Reading.{IsBlockFault}
 use Rattle.report_text.specs.Report.{BlockParts, HeadingParts, heading_words, heading_of, block_text}
 use Rattle.report_text.specs.declared.answer.Answer.{Answer}
 use Rattle.report_text.specs.declared.answer.Answer.TheVariants as answers
@@ -22,17 +22,17 @@ use Rattle.report_text.proofs.MemberLaws.{heading_of_block}
 use Rattle.report_text.proofs.PiecesLaws.{same_cut, no_cut}
 use Rattle.report_text.proofs.SpellLaws.{Without-literal}
 use Rattle.report_text.proofs.TestedLaws.{Tested, tested_list}
-use Rattle.journal_text.specs.Bounds.{IsTarget, IsClose, IsWritten, MayStand}
+use Rattle.journal_text.specs.Bounds.{MayStand}
 use Rattle.journal_text.specs.Lines.{IsLead, refusal_for}
-use Rattle.journal_text.specs.Reading.{first_word, IsNumber, IsOpening, IsClosing, IsUnknown, IsTitleLine, IsRailsLine, IsQuestionLine, IsClosingLine, IsStepLine, TellsFound, Next, IsBadTitle, AreBadRails, IsBadWord, IsAstray, IsBadQuestion, IsBadStep, IsAnswerFault, IsBadAnswer, HasMore, HasLine, Halts}
+use Rattle.journal_text.specs.Reading.{first_word, IsTitleLine, IsRailsLine, IsQuestionLine, IsClosingLine, IsStepLine, TellsFound, Next, IsBadTitle, AreBadRails, IsBadWord, IsAstray, IsBadQuestion, IsBadStep, IsAnswerFault, IsBadAnswer, HasMore, Halts}
 use Rattle.journal_text.specs.Reading.Next.{Title, RailsLine, PartOrEnd, StepOrClose}
 use Rattle.journal_text.specs.declared.lead.Lead.{Lead}
 use Rattle.journal_text.specs.declared.lead.Lead.TheVariants as leads
 use Rattle.journal_text.specs.declared.refusal.JournalRefusal.{JournalRefusal}
 use Rattle.journal_text.specs.declared.refusal.JournalRefusal.TheVariants as refusals
-use Rattle.journal_text.proofs.RunLaws.{Item, item_text, Allowed, Begins, begins, lead_for, Stuck, IsOneLine, one_title, one_rails, one_question, one_close, one_step_line, at_front, answer_front}
+use Rattle.journal_text.proofs.RunLaws.{Item, item_text, Allowed, Begins, begins, lead_for, Stuck, one_title, one_rails, one_question, one_close, one_step_line, at_front, answer_front}
 use Rattle.journal_text.proofs.RunLaws.Item.{TitleItem, RailsItem, QuestionItem, StepItem, CloseItem, AnswerItem}
-use Rattle.journal_text.proofs.WordsLaws.{first_is, some_lead, one_lead, without_last, words_of_line, tested_question_line, tested_closing_line, tested_rails_line, tested_title_line, tested_step_line, rails_line}
+use Rattle.journal_text.proofs.WordsLaws.{some_lead, one_lead, tested_question_line, tested_closing_line, tested_rails_line, tested_title_line, tested_step_line}
 
 -- ---- what is said of a faulty line
 
@@ -346,7 +346,7 @@ goes n bytes here i rest a e = inl (i, rest, a, e)
 stops : (n : Next) (bytes : List ℕ) (here : ℕ) (r : JournalRefusal) → Halts n bytes here r → Decided n bytes here
 stops n bytes here r h = inr (inr (r, h))
 
-behind_line : (bytes line rest text : List ℕ) → Cuts 10 bytes line rest → text ≡ line ++ 10 ∷ [] → bytes ≡ text ++ rest
+pub behind_line : (bytes line rest text : List ℕ) → Cuts 10 bytes line rest → text ≡ line ++ 10 ∷ [] → bytes ≡ text ++ rest
 behind_line bytes line rest text cut e = cut.text ∙ sym (append_assoc line (10 ∷ []) rest) ∙ ap (λ z. z ++ rest) (sym e)
 
 pub tested_found : (v : Version) (line : List ℕ) → Tested (TellsFound line)

@@ -1,5 +1,5 @@
 -- First words, and lines as words.
-use Rattle.std.proofs.Common.{◌≡◌, ◌≢◌, ℕ, suc, zero, ◌+◌, ◌*◌, ◌^◌, ◌<◌, ◌≤◌, ◌==◌, ◌⊎◌, inl, inr, Bool, true, false, cond, List, [], ◌∷◌, ◌++◌, length, get_or, map, refl, sym, ap, ◌∙◌, subst, arith, append_assoc, codes, None, Some, ℤ, pos, negsuc}
+use Rattle.std.proofs.Common.{◌≡◌, ◌≢◌, ℕ, ◌*◌, ◌^◌, ◌<◌, ◌≤◌, ◌==◌, ◌⊎◌, inl, inr, Bool, true, false, cond, List, [], ◌∷◌, ◌++◌, length, get_or, refl, sym, ap, ◌∙◌, subst, arith, append_assoc, codes, None, Some, ℤ, pos, negsuc}
 use Rattle.std.specs.Prelude.{All}
 use Rattle.std.specs.List.{AllByRecursion, join_with_byte, onto_first}
 use Rattle.std.specs.Fmt.{decimal}
@@ -11,8 +11,7 @@ use Rattle.lattice_grid.specs.Rectangle.{Size, IsSize}
 use Rattle.lrat_replay.specs.Ledger.{IsAbove0}
 use Rattle.lrat_replay.specs.LratRead.{kind_of}
 use Rattle.lrat_replay.specs.LratText.{hints_text, end_text, step_text}
-use Rattle.lrat_replay.specs.StepRead.{IsStep, IsLineOf}
-use Rattle.lrat_replay.specs.declared.line.LineKind.{LineKind}
+use Rattle.lrat_replay.specs.StepRead.{IsLineOf}
 use Rattle.lrat_replay.specs.declared.line.LineKind.TheVariants.{Add, Delete}
 use Rattle.lrat_replay.specs.declared.line.Step.{Step}
 use Rattle.lrat_replay.proofs.StepLaws.{kind-line, kind-is_step}
@@ -21,15 +20,15 @@ use Rattle.report_text.specs.Pieces.{Without, words}
 use Rattle.report_text.specs.Report.{words_text}
 use Rattle.report_text.specs.declared.answer.Version.{Version}
 use Rattle.report_text.specs.declared.answer.Version.TheVariants.{One, Two}
-use Rattle.report_text.proofs.JoinLaws.{pieces-join, join-pieces, Without-join}
-use Rattle.report_text.proofs.NumberLaws.{Without-decimal, decimal-digits, first_digit, same_number}
+use Rattle.report_text.proofs.JoinLaws.{pieces-join, join-pieces}
+use Rattle.report_text.proofs.NumberLaws.{Without-decimal, decimal-digits, first_digit}
 use Rattle.report_text.proofs.PiecesLaws.{pieces-some, pieces-cut}
-use Rattle.report_text.proofs.SpellLaws.{Spells, SpellsLine, nothing, then, after, only, seen_as, told_as, then_of, Without-literal}
+use Rattle.report_text.proofs.SpellLaws.{SpellsLine, nothing, then, after, only, told_as, then_of}
 use Rattle.report_text.proofs.TestedLaws.{Tested, tested_both, tested_as, tested_eq, tested_lt, tested_le, tested_list, tested_all}
 use Rattle.report_text.proofs.WordLaws.{numbers, sizes, arrays, size_of_array}
-use Rattle.journal_text.specs.Bounds.{IsTarget, IsClose, IsWritten}
+use Rattle.journal_text.specs.Bounds.{IsTarget, IsClose}
 use Rattle.journal_text.specs.Lines.{IsLead, target_words, question_words, close_words}
-use Rattle.journal_text.specs.Reading.{first_word, IsNumber, IsOpening, IsClosing, IsUnknown, title_text, IsTitleLine, rails_text, IsRailsLine, IsQuestionLine, IsClosingLine, IsStepLine}
+use Rattle.journal_text.specs.Reading.{first_word, IsNumber, IsClosing, title_text, IsTitleLine, rails_text, IsRailsLine, IsQuestionLine, IsClosingLine, IsStepLine}
 use Rattle.journal_text.specs.Text.{target_text, question_text, close_text}
 use Rattle.journal_text.specs.declared.lead.Lead.{Lead}
 use Rattle.journal_text.specs.declared.lead.Lead.TheVariants as leads
@@ -279,7 +278,7 @@ close_line Refuted = refl
 close_line (Spent n) = append_assoc (codes "spent ") (decimal n) (10 ∷ [])
 close_line Satisfied = refl
 
-some_close : (c : Close) → 0 < length (close_words c)
+pub some_close : (c : Close) → 0 < length (close_words c)
 some_close Refuted = omega arith
 some_close (Spent n) = omega arith
 some_close Satisfied = omega arith
@@ -377,16 +376,20 @@ tested_step_line line = by (kind_of (words_of line)) refl where
   by (Some (Add s)) f = read s f
   by (Some (Delete ids)) f = inr (λ (t, w, k). let e = sym (kind-line line t k) ∙ f in absurd cc)
 
+-- the line of a step, without its line feed
+abbrev pub step_line : Step → List ℕ
+step_line s = decimal s.id ++ 32 ∷ (literals_text s.clause ++ (48 ∷ 32 ∷ (hints_text s.hints ++ 48 ∷ [])))
+
+pub step-line : (s : Step) → step_text s.id s.clause s.hints ≡ step_line s ++ 10 ∷ []
+step-line s =
+    append_assoc (decimal s.id) (32 ∷ []) (literals_text s.clause ++ end_text s.hints)
+    ∙ ap (λ z. decimal s.id ++ 32 ∷ (literals_text s.clause ++ (48 ∷ 32 ∷ z))) (sym (append_assoc (hints_text s.hints) (48 ∷ []) (10 ∷ [])))
+    ∙ ap (λ z. decimal s.id ++ 32 ∷ z) (sym (append_assoc (literals_text s.clause) (48 ∷ 32 ∷ (hints_text s.hints ++ 48 ∷ [])) (10 ∷ [])))
+    ∙ sym (append_assoc (decimal s.id) (32 ∷ (literals_text s.clause ++ (48 ∷ 32 ∷ (hints_text s.hints ++ 48 ∷ [])))) (10 ∷ []))
+
 -- the line of a step is its identifier and more words
 step_behind : (line : List ℕ) (s : Step) → IsLineOf line s → (rest : List ℕ) × (line ≡ decimal s.id ++ 32 ∷ rest)
-step_behind line s h = (
-  literals_text s.clause ++ (48 ∷ 32 ∷ (hints_text s.hints ++ 48 ∷ [])),
-  without_last line (decimal s.id ++ 32 ∷ (literals_text s.clause ++ (48 ∷ 32 ∷ (hints_text s.hints ++ 48 ∷ [])))) 10 (sym h.text
-      ∙ append_assoc (decimal s.id) (32 ∷ []) (literals_text s.clause ++ end_text s.hints)
-      ∙ ap (λ z. decimal s.id ++ 32 ∷ (literals_text s.clause ++ (48 ∷ 32 ∷ z))) (sym (append_assoc (hints_text s.hints) (48 ∷ []) (10 ∷ [])))
-      ∙ ap (λ z. decimal s.id ++ 32 ∷ z) (sym (append_assoc (literals_text s.clause) (48 ∷ 32 ∷ (hints_text s.hints ++ 48 ∷ [])) (10 ∷ [])))
-      ∙ sym (append_assoc (decimal s.id) (32 ∷ (literals_text s.clause ++ (48 ∷ 32 ∷ (hints_text s.hints ++ 48 ∷ [])))) (10 ∷ []))),
-)
+step_behind line s h = (literals_text s.clause ++ (48 ∷ 32 ∷ (hints_text s.hints ++ 48 ∷ [])), without_last line (step_line s) 10 (sym h.text ∙ step-line s))
 
 pub step_number : (line : List ℕ) (s : Step) → IsLineOf line s → IsNumber (first_word line)
 step_number line s h =

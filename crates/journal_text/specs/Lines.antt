@@ -10,7 +10,7 @@ use Rattle.report_text.specs.declared.block.BlockFault.{BlockFault}
 use Rattle.report_text.specs.declared.block.BlockFault.TheVariants as faults
 use Rattle.journal_text.specs.Bounds.{IsTarget, IsClose, IsWritten, IsPart, IsJournal}
 use Rattle.journal_text.specs.Parts.{JournalParts, part_of}
-use Rattle.journal_text.specs.Reading.{IsClosing, IsNumber, IsUnknown, Next, Halts, IsRefused, before, AreNumbered, IsNumbered, AreLined}
+use Rattle.journal_text.specs.Reading.{IsClosing, IsNumber, IsUnknown, Halts, IsRefused, before, AreNumbered, IsNumbered, AreLined}
 use Rattle.journal_text.specs.Reading.Next.{StepOrClose}
 use Rattle.journal_text.specs.Reading.Place.{Outside, Inside}
 use Rattle.journal_text.specs.Text.{steps_text, close_text, part_text, parts_text}

@@ -1,6 +1,4 @@
-use Rattle.std.proofs.Common.{sym, subst}
 use Rattle.report_text.specs.Pieces.{words_left}
-use Rattle.journal_text.specs.Lines.{IsLead}
 use Rattle.journal_text.proofs.WordsLaws.{first_is}
 use Rattle.journal_text.proofs.lead.lead_of.Goals as goal
 

@@ -1,5 +1,4 @@
-use Rattle.report_text.specs.Report.{parts_of_block}
-use Rattle.journal_text.proofs.PartsLaws.{found_refused, answer_refused, answer_part, answer_bound}
+use Rattle.journal_text.proofs.PartsLaws.{found_refused, answer_refused, answer_part}
 use Rattle.journal_text.proofs.read.answer_at.Goals as goal
 
 pub returns-then-says_found : goal.returns-then-says_found

@@ -1,4 +1,4 @@
-use Rattle.std.proofs.Common.{◌≡◌, ◌≢◌, List, ℕ, inl, inr, refl, sym, subst, codes, rules, arith}
+use Rattle.std.proofs.Common.{◌≢◌, List, ℕ, inl, inr, refl, sym, subst, codes, rules}
 use Rattle.std.proofs.lemmas.Result.{err_from_is_err_and}
 use Rattle.journal_text.specs.Lines.{IsRefusedBehind, IsPartAt}
 use Rattle.journal_text.specs.declared.refusal.JournalRefusal.TheVariants.{Word, Order, Question, Truncated}
