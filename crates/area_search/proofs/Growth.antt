@@ -22,14 +22,16 @@ use Rattle.journal_text.specs.declared.target.Close.{Close}
 use Rattle.journal_text.specs.declared.target.Close.TheVariants as close
 use Rattle.journal_text.specs.declared.target.Target.{Target}
 use Rattle.journal_text.specs.declared.target.Target.TheVariants.{Whole}
-use Rattle.area_search.specs.Asked.{IsExcluded, SectionSo, AddsSection}
+use Rattle.lattice_question.specs.Asked.{IsExcluded, SectionSo, AddsSection}
 use Rattle.area_search.specs.Progress.{IsKnown, IsSpentOpen, AreShowing, HasWritten}
-use Rattle.area_search.specs.Searched.{IsSectionOf, StoppedSearch}
+use Rattle.lattice_question.specs.Written.{IsSectionOf}
+use Rattle.area_search.specs.Searched.{StoppedSearch}
 use Rattle.area_search.specs.declared.fault.SearchFault.{SearchFault}
-use Rattle.area_search.specs.declared.fault.SearchFault.TheVariants.{NoMemory}
+use Rattle.area_search.specs.declared.fault.SearchFault.TheVariants.{Sink, NoMemory}
 use Rattle.area_search.specs.declared.progress.Progress.{Progress}
-use Rattle.area_search.specs.declared.question.Outcome.TheVariants as outcome
-use Rattle.area_search.proofs.Fronts.{gains_then, gains_nothing, front_then, front_of_all, told_later, parts_push, parts_joined}
+use Rattle.lattice_question.specs.declared.question.Outcome.TheVariants as outcome
+use Rattle.lattice_question.proofs.Sections.{stopped_held as held_asking}
+use Rattle.lattice_question.proofs.Fronts.{gains_then, gains_nothing, front_then, front_of_all, told_later, parts_push, parts_joined}
 
 -- ---- what a longer list holds
 
@@ -139,7 +141,7 @@ known_past rails f old new h covered some best refuted proofs = record {
 abbrev pub Shows : ℕ → ℕ → Function → ℕ → Progress → List Part → Section → Type 0
 Shows rails output f budget new more section = AreShowing rails output f budget new (more ++ Question section ∷ [])
 
-pub written_more : (rails output : ℕ) (f : Function) (budget : ℕ) (s : Size) (Holds : Section → Type 0) (old new : Progress) (first a b : Option (List ℕ)) → HasWritten rails output f budget first a old → AddsSection output s a b Holds
+pub written_more : (rails output : ℕ) (f : Function) (budget : ℕ) (s : Size) (Holds : Section → Type 0) (old new : Progress) (first a b : Option (List ℕ)) → HasWritten rails output f budget first a old → AddsSection output (Whole s) a b Holds
     → ((more : List Part) (section : Section) → section.output ≡ output → section.target ≡ Whole s → AreShowing rails output f budget old more → Holds section → Shows rails output f budget new more section)
     → HasWritten rails output f budget first b new
 written_more rails output f budget s Holds old new first a b h adds grow = record {
@@ -237,6 +239,10 @@ written_begin rails output f budget p a refuted proofs given = record {
 
 -- ---- a search that stops
 
+-- its sink is given back as it was
+pub stopped_held : {K : Type 0} (got : K → Option (List ℕ)) (faults : K → ℕ) (output : ℕ) (sink held : K) (fault : SearchFault) → fault ≡ NoMemory → held ≡ sink → StoppedSearch output (got sink) (got held) (faults sink) (faults held) fault
+stopped_held got faults output sink held fault e same = held_asking got faults output sink held (fault ≡ Sink) (λ k. cc (sym e ∙ k)) same
+
 module _ (rails output : ℕ) (f : Function) (budget : ℕ) (p : Progress) (first a b : Option (List ℕ)) (earliest before now : ℕ) (fault : SearchFault) (h : HasWritten rails output f budget first a p) (earlier : earliest ≤ before) where
   pub stopped_after : StoppedSearch output a b before now fault → StoppedSearch output first b earliest now fault
   stopped_after stopped = record {
@@ -248,7 +254,7 @@ module _ (rails output : ℕ) (f : Function) (budget : ℕ) (p : Progress) (firs
   }
 
   -- behind a whole section
-  pub stopped_behind : (s : Size) (Holds : Section → Type 0) → AddsSection output s a b Holds → before ≤ now → fault ≡ NoMemory → StoppedSearch output first b earliest now fault
+  pub stopped_behind : (s : Size) (Holds : Section → Type 0) → AddsSection output (Whole s) a b Holds → before ≤ now → fault ≡ NoMemory → StoppedSearch output first b earliest now fault
   stopped_behind s Holds adds later e = record {
     more = h.more ++ Question adds.section ∷ [];
     are = All-push (IsSectionOf output) h.more (Question adds.section) h.are (adds.output_is, adds.asked);

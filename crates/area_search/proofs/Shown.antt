@@ -15,10 +15,10 @@ use Rattle.journal_text.specs.Least.{area, NoneBelow}
 use Rattle.journal_text.specs.Parts.{Section, Part, Question, Answered}
 use Rattle.journal_text.specs.Proved.{IsRefuted, HasWhole}
 use Rattle.area_search.specs.Answer.{IsLeast, HoldsOfLattices}
-use Rattle.area_search.specs.Asked.{IsExcluded}
+use Rattle.lattice_question.specs.Asked.{IsExcluded}
 use Rattle.area_search.specs.Progress.{IsKnown, IsSpentOpen, AreShowing, HasWritten, EndedSo, answer_of}
-use Rattle.area_search.specs.Searched.{IsSectionOf, HasNoSection, IsShown, Searched}
-use Rattle.area_search.proofs.Fronts.{gains_nothing}
+use Rattle.lattice_question.specs.Written.{IsSectionOf, HasNoSection, IsShown, Searched}
+use Rattle.lattice_question.proofs.Fronts.{gains_nothing}
 use Rattle.area_search.specs.declared.progress.Progress.{Progress}
 
 -- the member that holds a shape

@@ -1,4 +1,3 @@
 pub mod Answer
-pub mod Asked
 pub mod Progress
 pub mod Searched

@@ -18,8 +18,8 @@ use Rattle.journal_text.specs.Parts.{Section, Part, Question, size_of, array_of}
 use Rattle.journal_text.specs.Proved.{IsRefuted, IsSpent, IsLeftOpen, HasWhole}
 use Rattle.journal_text.specs.Text.{parts_text}
 use Rattle.journal_text.specs.declared.target.Close.TheVariants.{Satisfied}
-use Rattle.area_search.specs.Asked.{IsExcluded}
-use Rattle.area_search.specs.Searched.{IsSectionOf}
+use Rattle.lattice_question.specs.Asked.{IsExcluded}
+use Rattle.lattice_question.specs.Written.{IsSectionOf}
 use Rattle.area_search.specs.declared.progress.Progress.{Progress}
 use Rattle.area_search.specs.declared.progress.Turn.{Turn}
 use Rattle.area_search.specs.declared.progress.Turn.TheVariants as turn

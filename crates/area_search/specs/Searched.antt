@@ -1,46 +1,10 @@
--- What a search writes.
-use Rattle.std.specs.Prelude.{◌≡◌, ℕ, ◌≤◌, List, ◌++◌, All, IfSome}
+-- What a search writes that stops.
+use Rattle.std.specs.Prelude.{◌≡◌, ℕ, List}
 use Rattle.std.specs.declared.option.Option.{Option}
-use Rattle.std.specs.List.{Contains}
-use Rattle.cube_core.specs.Function.{Function}
-use Rattle.wire_io.specs.Causes.{Rose}
-use Rattle.wire_io.specs.Told.{Gains, GainsFront}
-use Rattle.report_text.specs.declared.answer.Answer.{Answer}
-use Rattle.report_text.specs.declared.answer.Proof.{Proof}
-use Rattle.report_text.specs.declared.answer.Version.TheVariants.{Two}
-use Rattle.journal_text.specs.Bounds.{IsAsked}
-use Rattle.journal_text.specs.Good.{Good, Licensed, Listed}
-use Rattle.journal_text.specs.Parts.{Section, Part, Question, Answered}
-use Rattle.journal_text.specs.Text.{parts_text}
+use Rattle.lattice_question.specs.Written.{StoppedAsking}
 use Rattle.area_search.specs.declared.fault.SearchFault.{SearchFault}
 use Rattle.area_search.specs.declared.fault.SearchFault.TheVariants.{Sink}
 
--- a section of the output, as a journal may have it
-abbrev pub IsSectionOf : ℕ → Part → Type 0
-IsSectionOf output (Question s) = (s.output ≡ output) × IsAsked s
-IsSectionOf output (Answered block) = ⊥
-
--- No section among the parts is of the output.
-abbrev pub HasNoSection : List Part → ℕ → Type 0
-HasNoSection parts output = (s : Section) → Contains parts (Question s) → s.output ≡ output → ⊥
-
--- Behind these parts the answer is good, licensed with the budget, and listed.
-pub record IsShown (rails output : ℕ) (f : Function) (budget : ℕ) (parts : List Part) (answer : Answer) (proofs : List Proof) : Type 0 where
-  pub good : Good rails output f parts answer
-  pub licensed : Licensed rails output f parts budget answer
-  pub listed : Listed rails output f parts answer proofs
-
--- What a search wrote: sections of the output alone. Where the sink tells, they show the answer, behind any parts that have no section of the output.
-pub record Searched (rails output : ℕ) (f : Function) (budget : ℕ) (got got' : Option (List ℕ)) (answer : Answer) (proofs : List Proof) : Type 0 where
-  pub more : List Part
-  pub are : All (IsSectionOf output) more
-  pub gained : Gains got got' (parts_text Two more)
-  pub shown : IfSome got' (λ _. (parts : List Part) → HasNoSection parts output → IsShown rails output f budget (parts ++ more) answer proofs)
-
 -- What a search wrote that stopped: a front of sections of the output alone. Its fault is the sink's only where the sink's count of faults rose.
-pub record StoppedSearch (output : ℕ) (got got' : Option (List ℕ)) (faults faults' : ℕ) (fault : SearchFault) : Type 0 where
-  pub more : List Part
-  pub are : All (IsSectionOf output) more
-  pub front : GainsFront got got' (parts_text Two more)
-  pub later : faults ≤ faults'
-  pub cause : fault ≡ Sink → Rose faults faults'
+abbrev pub StoppedSearch : ℕ → Option (List ℕ) → Option (List ℕ) → ℕ → ℕ → SearchFault → Type 0
+StoppedSearch output got got' faults faults' fault = StoppedAsking output got got' faults faults' (fault ≡ Sink)

@@ -7,11 +7,11 @@ ghost use Rattle.lattice_grid.specs.declared.start.Start.TheVariants as starts;
 ghost use Rattle.journal_text.specs.Least.{area, IsRight, IsNoLarger, IsStart};
 ghost use Rattle.area_search.specs.Answer.{HoldsOfLattices, AreUsed};
 ghost use Rattle.area_search.specs.Progress.{answer_of};
-ghost use Rattle.area_search.specs.Searched.{Searched, StoppedSearch};
+ghost use Rattle.lattice_question.specs.Written.{Searched};
+ghost use Rattle.area_search.specs.Searched.{StoppedSearch};
 
-use crate::fault::SearchFault;
+use crate::fault::{SearchFault, out_of_memory};
 use crate::progress::Progress;
-use crate::question::out_of_memory;
 use crate::search::search_below;
 use crate::start::{best_lattice, first_lattice};
 use cube_core::spec::Spec;

@@ -1,16 +1,19 @@
 //! Questions one after another, until none is left below the best lattice.
 ghost use Rattle.std.specs.Prelude.{◌≡◌, ℕ, ◌*◌, ◌<◌, ◌≤◌, List, false, IfOk, IfErr, Option};
 ghost use Rattle.journal_text.specs.Least.{area};
+ghost use Rattle.journal_text.specs.declared.target.Target.TheVariants.{Whole};
+ghost use Rattle.lattice_question.specs.Asked.{OutcomeSo, SectionSo, AddsSection};
 ghost use Rattle.area_search.specs.Progress.{IsKnown, HasWritten, TurnSo, PassedSo, AdvancedSo, EndedSo};
 ghost use Rattle.area_search.specs.Searched.{StoppedSearch};
 
-use crate::fault::SearchFault;
+use crate::fault::{SearchFault, out_of_memory, question_stopped};
 use crate::progress::{Progress, Turn};
-use crate::question::{Asked, Outcome, ask, out_of_memory};
 use cube_core::spec::Spec;
+use journal_text::target::Target;
 use journal_text::writer::JournalWriter;
 use lattice_grid::rails::Rails;
 use lattice_grid::shape::Shape;
+use lattice_question::question::{Asked, Outcome, ask};
 use shape_list::stair::stair;
 use std::alloc::Global;
 use wire_io::fault::Stopped;
@@ -25,6 +28,33 @@ pub enum Passed {
     Better,
     /// The question of this shape was given up.
     GivenUp(Shape),
+}
+
+/// Asks whether some lattice of this shape and of allowed literals realises the function.
+fn ask_shape<K: Sink>(
+    alloc: Global,
+    output: u32,
+    spec: &Spec,
+    rails: Rails,
+    budget: u32,
+    shape: Shape,
+    writer: JournalWriter<K>,
+) -> Result<Asked<K>, Stopped<SearchFault, K>>
+    requires whole { writer.failed ≡ false }
+    requires output { output ≤ 63 }
+    requires budget { budget ≤ 200000 }
+    requires few { shape.rows * shape.cols ≤ 32768 }
+    ensures whole { IfOk result (λ asked. asked.writer.failed ≡ false) }
+    ensures so { IfOk result (λ asked. OutcomeSo rails spec.now (Whole shape) asked.outcome) }
+    ensures adds { IfOk result (λ asked. AddsSection output (Whole shape) (K.got writer.sink) (K.got asked.writer.sink) (SectionSo rails spec.now budget asked.outcome)) }
+    ensures later { IfOk result (λ asked. K.faults writer.sink ≤ K.faults asked.writer.sink) }
+    ensures stopped { IfErr result (λ stopped. StoppedSearch output (K.got writer.sink) (K.got stopped.held) (K.faults writer.sink) (K.faults stopped.held) stopped.fault) }
+{
+    let target = Target::Whole(shape);
+    match ask(alloc, output, spec, rails, budget, &target, writer) {
+        Ok(asked) => Ok(asked),
+        Err(stopped) => Err(question_stopped(stopped)),
+    }
 }
 
 /// Asks the question of a shape, unless it was given up before.
@@ -55,7 +85,7 @@ fn take_turn<K: Sink>(
     if progress.given_up == Some(shape) {
         return Ok((Turn::GivenUp, writer));
     }
-    let asked = match ask(alloc, output, spec, rails, budget, shape, writer) {
+    let asked = match ask_shape(alloc, output, spec, rails, budget, shape, writer) {
         Ok(asked) => asked,
         Err(stopped) => return Err(stopped),
     };

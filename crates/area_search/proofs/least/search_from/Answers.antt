@@ -1,6 +1,6 @@
 use Rattle.std.proofs.Common.{sym, subst, arith}
 use Rattle.area_search.specs.Answer.{HoldsOfLattices}
-use Rattle.area_search.specs.Searched.{Searched}
+use Rattle.lattice_question.specs.Written.{Searched}
 use Rattle.area_search.proofs.Growth.{written_begin}
 use Rattle.area_search.proofs.Shown.{holds_at_end, searched_at_end}
 use Rattle.area_search.proofs.least.search_from.Goals as goal

@@ -1,5 +1,5 @@
 use Rattle.std.proofs.Common.{◌∙◌}
-use Rattle.area_search.proofs.Sections.{stopped_held}
+use Rattle.area_search.proofs.Growth.{stopped_held}
 use Rattle.area_search.proofs.least.search_improved.Goals as goal
 
 pub returns-in-Err-clause-stopped : goal.returns-in-Err-clause-stopped

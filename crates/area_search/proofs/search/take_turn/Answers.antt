@@ -1,10 +1,10 @@
 use Rattle.std.proofs.Common.{sym, refl, ◌∙◌, subst, ◌<◌, ◌*◌, Some}
 use Rattle.lattice_grid.specs.Rectangle.{Size}
 use Rattle.journal_text.specs.Least.{area}
-use Rattle.area_search.specs.Asked.{SectionSo}
+use Rattle.lattice_question.specs.Asked.{SectionSo}
 use Rattle.area_search.specs.Searched.{StoppedSearch}
 use Rattle.area_search.specs.declared.progress.Progress.{Progress}
-use Rattle.area_search.specs.declared.question.Outcome.TheVariants as outcome
+use Rattle.lattice_question.specs.declared.question.Outcome.TheVariants as outcome
 use Rattle.area_search.proofs.Growth.{known_refuted, written_more, shows_refuted, shows_better, shows_given_up, stopped_after, stopped_behind}
 use Rattle.area_search.proofs.search.take_turn.Goals as goal
 

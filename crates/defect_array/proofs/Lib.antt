@@ -1,0 +1,4 @@
+mod Placed
+mod RowLaws
+mod TakeLaws
+mod ReadLaws

@@ -1,0 +1,5 @@
+pub mod Answering
+pub mod Place
+pub mod Reading
+pub mod Rows
+pub mod Taking
