@@ -6,6 +6,8 @@ use Rattle.std.proofs.lemmas.Bool.{lt-ltb}
 use Rattle.clause_core.specs.CnfRead.{cnf_of}
 use Rattle.clause_core.specs.declared.refusal.CnfRefusal.{CnfRefusal}
 use Rattle.clause_core.specs.declared.refusal.CnfRefusal.TheVariants as cnf
+use Rattle.journal_text.specs.declared.refusal.JournalRefusal.{JournalRefusal}
+use Rattle.journal_text.specs.declared.refusal.JournalRefusal.TheVariants as journal
 use Rattle.lrat_replay.specs.declared.refusal.LratRefusal.{LratRefusal}
 use Rattle.lrat_replay.specs.declared.refusal.LratRefusal.TheVariants as lrat
 use Rattle.pla_reader.specs.declared.pla.PlaRefusal.{PlaRefusal}
@@ -117,3 +119,16 @@ report_memory (report.Grid line) = inr (λ e. cc)
 report_memory (report.Proofs line) = inr (λ e. cc)
 report_memory (report.Trailing line) = inr (λ e. cc)
 report_memory (report.Truncated line) = inr (λ e. cc)
+
+pub journal_memory : (refusal : JournalRefusal) → (refusal ≡ journal.NoMemory) ⊎ (refusal ≢ journal.NoMemory)
+journal_memory journal.NoMemory = inl refl
+journal_memory (journal.Header line) = inr (λ e. cc)
+journal_memory (journal.Rails line) = inr (λ e. cc)
+journal_memory (journal.Word line) = inr (λ e. cc)
+journal_memory (journal.Order line) = inr (λ e. cc)
+journal_memory (journal.Question line) = inr (λ e. cc)
+journal_memory (journal.Step line) = inr (λ e. cc)
+journal_memory (journal.Block line) = inr (λ e. cc)
+journal_memory (journal.Proofs line) = inr (λ e. cc)
+journal_memory (journal.Trailing line) = inr (λ e. cc)
+journal_memory (journal.Truncated line) = inr (λ e. cc)

@@ -5,9 +5,14 @@ use Rattle.cube_core.specs.Function.{Function}
 use Rattle.lattice_grid.specs.Rectangle.{Size}
 use Rattle.std.specs.declared.option.Option.{Option}
 use Rattle.std.proofs.lemmas.Bool.{true≢false}
+use Rattle.audit_core.specs.Audit.{Audited}
 use Rattle.clause_core.specs.Formula.{Formula}
 use Rattle.clause_core.specs.CnfRead.{cnf_of}
 use Rattle.clause_core.specs.declared.refusal.CnfRefusal.{CnfRefusal}
+use Rattle.journal_text.specs.Parts.{JournalParts}
+use Rattle.journal_text.specs.Reading.{Gives as GivesJournal, IsRefused as IsNoJournal}
+use Rattle.journal_text.specs.declared.refusal.JournalRefusal.{JournalRefusal}
+use Rattle.journal_text.proofs.GivesLaws.{one_answer as one_journal_answer}
 use Rattle.lrat_replay.specs.declared.line.Line.{Line}
 use Rattle.lrat_replay.specs.declared.refusal.LratRefusal.{LratRefusal}
 use Rattle.lrat_replay.specs.Book.{start}
@@ -20,30 +25,37 @@ use Rattle.report_text.specs.Reading.{Gives, IsRefused}
 use Rattle.report_text.specs.Report.{ReportParts}
 use Rattle.report_text.proofs.AnswerLaws.{one_answer}
 use Rattle.four_lattice.specs.Check.{IsAccepted, adds_empty, end_line}
-use Rattle.four_lattice.specs.Judge.{Texts, Task, Judgement, Refused, Accepted, Lattices, Encoding, Realised, Refuted, Minima, Stage, Last, TextRefuses, as_pla, as_cnf, IsCnfRefused, IsLratRefused, IsReportRefused, LratRefuses, LratGives, ReportRefuses, ReportGives, LacksOutput, LacksFunction, Denies, LinesStop, LinesRefuse, LatticesCome, EncodingComes, VerifyComes, CheckComes, SynthComes, JobComes, Comes}
+use Rattle.four_lattice.specs.Judge.{Texts, Task, Judgement, Refused, Accepted, Lattices, Encoding, Realised, Refuted, Confirmed, Minima, Stage, Last, TextRefuses, as_pla, as_cnf, IsCnfRefused, IsLratRefused, IsReportRefused, IsJournalRefused, JournalRefuses, JournalGives, Unconfirms, AuditComes, LratRefuses, LratGives, ReportRefuses, ReportGives, LacksOutput, LacksFunction, Denies, LinesStop, LinesRefuse, LatticesCome, EncodingComes, VerifyComes, CheckComes, SynthComes, JobComes, Comes}
 use Rattle.four_lattice.specs.Laws.{IsOneJudgement}
 use Rattle.four_lattice.specs.Lattices.{IsThere}
 use Rattle.four_lattice.specs.Verified.{IsVerified}
 use Rattle.four_lattice.specs.declared.lattices.Construction.{Construction}
 use Rattle.four_lattice.specs.declared.ending.SideRefusal.{SideRefusal}
 use Rattle.four_lattice.specs.declared.ending.SideRefusal.TheVariants as side
-use Rattle.four_lattice.specs.declared.ending.Unconfirmed.TheVariants.{Denied, Step, Unfinished}
+use Rattle.four_lattice.specs.declared.ending.Unconfirmed.TheVariants.{Denied, Step, Unfinished, Unaudited}
 use Rattle.four_lattice.specs.declared.ending.Refusal.{Refusal}
 use Rattle.four_lattice.specs.declared.ending.Refusal.TheVariants as refusal
 use Rattle.four_lattice.specs.declared.words.Job.{Job}
 use Rattle.four_lattice.specs.declared.words.Job.TheVariants as jobs
+use Rattle.four_lattice.proofs.AuditedLaws.{HasFunctions, has_functions, one_unaudited, no_unaudited}
 use Rattle.four_lattice.proofs.VerifiedLaws.{one_denial, no_denial}
 use Rattle.four_lattice.proofs.ReplayedLaws.{one_first_fault, no_first_fault}
 
 -- One judgement of a stage: one refusal, no refusal where there is a value, one value, and one judgement from there.
+stage_one_of : (X : Type 0) (R R' : Refusal → Type 0) (G G' : X → Type 0) (next next' : X → Judgement → Type 0)
+    → ((a b : Refusal) → R a → R' b → a ≡ b) → ((a : Refusal) (x : X) → R a → G' x → ⊥) → ((x : X) (a : Refusal) → G x → R' a → ⊥) → ((x y : X) → G x → G' y → x ≡ y)
+    → ((x : X) → G x → (i j : Judgement) → next x i → next' x j → i ≡ j)
+    → (i j : Judgement) → Stage X R G next i → Stage X R' G' next' j → i ≡ j
+stage_one_of X R R' G G' next next' one none none' same rest i j a b = elim a [
+  | inl h ↦ elim b [ inl k ↦ h.2 ∙ ap Refused (one h.0 k.0 h.1 k.1) ∙ sym k.2 | inr k ↦ absurd (none h.0 k.0 h.1 k.1) ]
+  | inr h ↦ elim b [ inl k ↦ absurd (none' h.0 k.0 h.1 k.1) | inr k ↦ rest h.0 h.1 i j h.2 (subst (λ x. next' x j) (sym (same h.0 k.0 h.1 k.1)) k.2) ]
+]
+
 stage_one : (X : Type 0) (R R' : Refusal → Type 0) (G G' : X → Type 0) (next next' : X → Judgement → Type 0)
     → ((a b : Refusal) → R a → R' b → a ≡ b) → ((a : Refusal) (x : X) → R a → G' x → ⊥) → ((x : X) (a : Refusal) → G x → R' a → ⊥) → ((x y : X) → G x → G' y → x ≡ y)
     → ((x : X) (i j : Judgement) → next x i → next' x j → i ≡ j)
     → (i j : Judgement) → Stage X R G next i → Stage X R' G' next' j → i ≡ j
-stage_one X R R' G G' next next' one none none' same rest i j a b = elim a [
-  | inl h ↦ elim b [ inl k ↦ h.2 ∙ ap Refused (one h.0 k.0 h.1 k.1) ∙ sym k.2 | inr k ↦ absurd (none h.0 k.0 h.1 k.1) ]
-  | inr h ↦ elim b [ inl k ↦ absurd (none' h.0 k.0 h.1 k.1) | inr k ↦ rest h.0 i j h.2 (subst (λ x. next' x j) (sym (same h.0 k.0 h.1 k.1)) k.2) ]
-]
+stage_one X R R' G G' next next' one none none' same rest = stage_one_of X R R' G G' next next' one none none' same (λ x g. rest x)
 
 last_one : (R R' : Refusal → Type 0) (Holds : Type 0) (task : Task) → ((a b : Refusal) → R a → R' b → a ≡ b) → ((a : Refusal) → R a → Holds → ⊥) → ((a : Refusal) → R' a → Holds → ⊥)
     → (i j : Judgement) → Last R Holds task i → Last R' Holds task j → i ≡ j
@@ -74,6 +86,13 @@ module _ (Of : Option (List ℕ) → (List ℕ → Type 0) → Type 0) (both : T
     one_value : (x y : X) → IsSomeAnd told (λ t. Gives' t x) → Of told (λ t. Gives' t y) → x ≡ y
     one_value x y p q = both _ told (λ t. Gives' t x) (λ t. Gives' t y) (λ t h k. same t x y h k) p q
 
+    text_one_of : (next next' : X → Judgement → Type 0) → ((x : X) → IsSomeAnd told (λ t. Gives' t x) → (i j : Judgement) → next x i → next' x j → i ≡ j)
+        → (i j : Judgement) → Stage X (TextRefuses IsSomeAnd told at IsRefusedText) (λ x. IsSomeAnd told (λ t. Gives' t x)) next i
+        → Stage X (TextRefuses Of told at IsRefusedText) (λ x. Of told (λ t. Gives' t x)) next' j → i ≡ j
+    text_one_of next next' rest =
+        stage_one_of X (TextRefuses IsSomeAnd told at IsRefusedText) (TextRefuses Of told at IsRefusedText) (λ x. IsSomeAnd told (λ t. Gives' t x)) (λ x. Of told (λ t. Gives' t x))
+        next next' one_refusal no_value no_refusal one_value rest
+
     text_one : (next next' : X → Judgement → Type 0) → ((x : X) (i j : Judgement) → next x i → next' x j → i ≡ j)
         → (i j : Judgement) → Stage X (TextRefuses IsSomeAnd told at IsRefusedText) (λ x. IsSomeAnd told (λ t. Gives' t x)) next i
         → Stage X (TextRefuses Of told at IsRefusedText) (λ x. Of told (λ t. Gives' t x)) next' j → i ≡ j
@@ -86,6 +105,12 @@ module _ (Of : Option (List ℕ) → (List ℕ → Type 0) → Type 0) (both : T
       → (i j : Judgement) → Stage Parts (TextRefuses IsSomeAnd told as_pla IsPlaRefused) (λ x. IsSomeAnd told (λ t. Reads t x)) next i
       → Stage Parts (TextRefuses Of told as_pla IsPlaRefused) (λ x. Of told (λ t. Reads t x)) next' j → i ≡ j
   pla_one told next next' rest = text_one told as_pla IsPlaRefused Reads (λ t a b h k. Refused-once t a b h k) (λ t a x h k. Reads-or_Refused t x a k h) (λ t x y h k. Reads-once t x y h k) next next' rest
+
+  -- what follows may ask that it was read
+  pla_one_of : (told : Option (List ℕ)) (next next' : Parts → Judgement → Type 0) → ((x : Parts) → IsSomeAnd told (λ t. Reads t x) → (i j : Judgement) → next x i → next' x j → i ≡ j)
+      → (i j : Judgement) → Stage Parts (TextRefuses IsSomeAnd told as_pla IsPlaRefused) (λ x. IsSomeAnd told (λ t. Reads t x)) next i
+      → Stage Parts (TextRefuses Of told as_pla IsPlaRefused) (λ x. Of told (λ t. Reads t x)) next' j → i ≡ j
+  pla_one_of told next next' rest = text_one_of told as_pla IsPlaRefused Reads (λ t a b h k. Refused-once t a b h k) (λ t a x h k. Reads-or_Refused t x a k h) (λ t x y h k. Reads-once t x y h k) next next' rest
 
   -- the text of a formula
   same_refusal : (text : List ℕ) (a b : CnfRefusal) → cnf_of text ≡ Err a → cnf_of text ≡ Err b → a ≡ b
@@ -119,15 +144,19 @@ module _ (Of : Option (List ℕ) → (List ℕ → Type 0) → Type 0) (both : T
   one_lrat text side.TooLong side.TooLong h k = refl
   one_lrat text side.TooLong (side.Report b) h k = absurd k
   one_lrat text side.TooLong (side.Lrat b) h k = long_and_short (length text) h k.0
+  one_lrat text side.TooLong (side.Journal b) h k = absurd k
   one_lrat text (side.Report a) b h k = absurd h
   one_lrat text (side.Lrat a) side.TooLong h k = long_and_short (length text) k h.0
   one_lrat text (side.Lrat a) (side.Report b) h k = absurd k
   one_lrat text (side.Lrat a) (side.Lrat b) h k = ap side.Lrat (same_lrat_refusal text a b h.1 k.1)
+  one_lrat text (side.Lrat a) (side.Journal b) h k = absurd k
+  one_lrat text (side.Journal a) b h k = absurd h
 
   no_lrat : (text : List ℕ) (a : SideRefusal) (lines : List Line) → IsLratRefused text a → (length text ≤ 536870912) × (lrat_of text ≡ Ok lines) → ⊥
   no_lrat text side.TooLong lines h k = long_and_short (length text) h k.0
   no_lrat text (side.Report a) lines h k = h
   no_lrat text (side.Lrat a) lines h k = differ_lrat text lines a k.1 h.1
+  no_lrat text (side.Journal a) lines h k = h
 
   lrat_one : (told : Option (List ℕ)) (next next' : List Line → Judgement → Type 0) → ((x : List Line) (i j : Judgement) → next x i → next' x j → i ≡ j)
       → (i j : Judgement) → Stage (List Line) (TextRefuses IsSomeAnd told refusal.Side IsLratRefused) (λ x. IsSomeAnd told (λ t. (length t ≤ 536870912) × (lrat_of t ≡ Ok x))) next i
@@ -148,21 +177,58 @@ module _ (Of : Option (List ℕ) → (List ℕ → Type 0) → Type 0) (both : T
   one_report text side.TooLong side.TooLong h k = refl
   one_report text side.TooLong (side.Report b) h k = long_and_short (length text) h k.0
   one_report text side.TooLong (side.Lrat b) h k = absurd k
+  one_report text side.TooLong (side.Journal b) h k = absurd k
   one_report text (side.Report a) side.TooLong h k = long_and_short (length text) k h.0
   one_report text (side.Report a) (side.Report b) h k = ap side.Report (same_report_refusal text a b h.1 k.1)
   one_report text (side.Report a) (side.Lrat b) h k = absurd k
+  one_report text (side.Report a) (side.Journal b) h k = absurd k
   one_report text (side.Lrat a) b h k = absurd h
+  one_report text (side.Journal a) b h k = absurd h
 
   no_report : (text : List ℕ) (a : SideRefusal) (report : ReportParts) → IsReportRefused text a → (length text ≤ 536870912) × Gives text (Ok report) → ⊥
   no_report text side.TooLong report h k = long_and_short (length text) h k.0
   no_report text (side.Report a) report h k = differ_report text report a k.1 h.1
   no_report text (side.Lrat a) report h k = h
+  no_report text (side.Journal a) report h k = h
 
   report_one : (told : Option (List ℕ)) (next next' : ReportParts → Judgement → Type 0) → ((x : ReportParts) (i j : Judgement) → next x i → next' x j → i ≡ j)
       → (i j : Judgement) → Stage ReportParts (TextRefuses IsSomeAnd told refusal.Side IsReportRefused) (λ x. IsSomeAnd told (λ t. (length t ≤ 536870912) × Gives t (Ok x))) next i
       → Stage ReportParts (TextRefuses Of told refusal.Side IsReportRefused) (λ x. Of told (λ t. (length t ≤ 536870912) × Gives t (Ok x))) next' j → i ≡ j
   report_one told next next' rest =
       text_one told refusal.Side IsReportRefused (λ t x. (length t ≤ 536870912) × Gives t (Ok x)) one_report no_report (λ t a b h k. same_report t a b h.1 k.1) next next' rest
+
+  same_journal_refusal : (text : List ℕ) (a b : JournalRefusal) → IsNoJournal text a → IsNoJournal text b → a ≡ b
+  same_journal_refusal text a b p q = let e : Err a ≡ Err b = one_journal_answer text (Err a) (Err b) p q in cc
+
+  differ_journal : (text : List ℕ) (journal : JournalParts) (refusal : JournalRefusal) → GivesJournal text (Ok journal) → IsNoJournal text refusal → ⊥
+  differ_journal text journal refusal p q = let e : Ok journal ≡ Err refusal = one_journal_answer text (Ok journal) (Err refusal) p q in cc
+
+  same_journal : (text : List ℕ) (a b : JournalParts) → GivesJournal text (Ok a) → GivesJournal text (Ok b) → a ≡ b
+  same_journal text a b p q = let e : Ok a ≡ Ok b = one_journal_answer text (Ok a) (Ok b) p q in cc
+
+  one_journal : (text : List ℕ) (a b : SideRefusal) → IsJournalRefused text a → IsJournalRefused text b → a ≡ b
+  one_journal text side.TooLong side.TooLong h k = refl
+  one_journal text side.TooLong (side.Report b) h k = absurd k
+  one_journal text side.TooLong (side.Lrat b) h k = absurd k
+  one_journal text side.TooLong (side.Journal b) h k = long_and_short (length text) h k.0
+  one_journal text (side.Report a) b h k = absurd h
+  one_journal text (side.Lrat a) b h k = absurd h
+  one_journal text (side.Journal a) side.TooLong h k = long_and_short (length text) k h.0
+  one_journal text (side.Journal a) (side.Report b) h k = absurd k
+  one_journal text (side.Journal a) (side.Lrat b) h k = absurd k
+  one_journal text (side.Journal a) (side.Journal b) h k = ap side.Journal (same_journal_refusal text a b h.1 k.1)
+
+  no_journal : (text : List ℕ) (a : SideRefusal) (journal : JournalParts) → IsJournalRefused text a → (length text ≤ 536870912) × GivesJournal text (Ok journal) → ⊥
+  no_journal text side.TooLong journal h k = long_and_short (length text) h k.0
+  no_journal text (side.Report a) journal h k = h
+  no_journal text (side.Lrat a) journal h k = h
+  no_journal text (side.Journal a) journal h k = differ_journal text journal a k.1 h.1
+
+  journal_one : (told : Option (List ℕ)) (next next' : JournalParts → Judgement → Type 0) → ((x : JournalParts) (i j : Judgement) → next x i → next' x j → i ≡ j)
+      → (i j : Judgement) → Stage JournalParts (TextRefuses IsSomeAnd told refusal.Side IsJournalRefused) (λ x. IsSomeAnd told (λ t. (length t ≤ 536870912) × GivesJournal t (Ok x))) next i
+      → Stage JournalParts (TextRefuses Of told refusal.Side IsJournalRefused) (λ x. Of told (λ t. (length t ≤ 536870912) × GivesJournal t (Ok x))) next' j → i ≡ j
+  journal_one told next next' rest =
+      text_one told refusal.Side IsJournalRefused (λ t x. (length t ≤ 536870912) × GivesJournal t (Ok x)) one_journal no_journal (λ t a b h k. same_journal t a b h.1 k.1) next next' rest
 
   -- lines are refused in one way
   accepted_and_refused : (formula : Formula) (lines : List Line) (last : ℕ) (a : Refusal) → LinesStop formula lines last a → IsAccepted formula lines × (adds_empty formula lines ≡ true) → ⊥
@@ -228,12 +294,22 @@ module _ (Of : Option (List ℕ) → (List ℕ → Type 0) → Type 0) (both : T
       (λ lines. last_one (LinesRefuse IsSomeAnd x formula lines) (LinesRefuse Of x formula lines) (IsAccepted formula lines × (adds_empty formula lines ≡ true)) Refuted
       (λ a b h k. one_stop formula lines h.0 k.0 (one_end x.side h.0 k.0 h.1 k.1) a b h.2 k.2) (λ a h k. accepted_and_refused formula lines h.0 a h.2 k) (λ a h k. accepted_and_refused formula lines h.0 a h.2 k)))
 
+  audit_one : (x : Texts) (i j : Judgement) → AuditComes IsSomeAnd x i → AuditComes Of x j → i ≡ j
+  audit_one x =
+      pla_one_of x.pla (λ parts. Stage JournalParts (JournalRefuses IsSomeAnd x) (JournalGives IsSomeAnd x) (λ journal. Last (Unconfirms parts journal) (Audited parts journal) (Confirmed journal)))
+      (λ parts. Stage JournalParts (JournalRefuses Of x) (JournalGives Of x) (λ journal. Last (Unconfirms parts journal) (Audited parts journal) (Confirmed journal)))
+      (λ parts read. journal_one x.side (λ journal. Last (Unconfirms parts journal) (Audited parts journal) (Confirmed journal)) (λ journal. Last (Unconfirms parts journal) (Audited parts journal) (Confirmed journal))
+      (λ journal. last_one (Unconfirms parts journal) (Unconfirms parts journal) (Audited parts journal) (Confirmed journal)
+      (λ a b h k. h.2 ∙ ap (λ r. refusal.Unconfirmed (Unaudited r)) (one_unaudited parts journal (has_functions x.pla parts read) h.0 k.0 h.1 k.1) ∙ sym k.2)
+      (λ a h k. no_unaudited parts journal (has_functions x.pla parts read) h.0 h.1 k) (λ a h k. no_unaudited parts journal (has_functions x.pla parts read) h.0 h.1 k)))
+
   job_one : (job : Job) (x : Texts) (i j : Judgement) → JobComes IsSomeAnd job x i → JobComes Of job x j → i ≡ j
   job_one (jobs.Pairs output) x i j h k = lattices_one _ output x i j h k
   job_one (jobs.Dual output) x i j h k = lattices_one _ output x i j h k
   job_one (jobs.Cnf output size) x i j h k = encoding_one output size x i j h k
   job_one jobs.Verify x i j h k = verify_one x i j h k
   job_one jobs.Check x i j h k = check_one x i j h k
+  job_one jobs.Audit x i j h k = audit_one x i j h k
   job_one (jobs.Synth conflicts output rails) x i j h k = synth_one rails conflicts output x i j h k
 
   -- words and texts

@@ -10,6 +10,7 @@ pub mod WordsRules
 pub mod WordsTaken
 pub mod WordsTurns
 pub mod FinishLaws
+pub mod AuditedLaws
 pub mod JudgeLaws
 pub mod SettledLaws
 pub mod CommandLaws

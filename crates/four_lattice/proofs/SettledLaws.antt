@@ -6,13 +6,15 @@ use Rattle.four_lattice.specs.Ending.{status_of, refusal_status, note_text}
 use Rattle.four_lattice.specs.Devices.{Change}
 use Rattle.std.specs.Prelude.{List, slice_get}
 use Rattle.std.proofs.lemmas.Bool.{true≢false}
+use Rattle.audit_core.specs.Audit.{Audited}
 use Rattle.clause_core.specs.Formula.{Formula}
 use Rattle.cube_core.specs.Function.{Function}
+use Rattle.journal_text.specs.Parts.{JournalParts}
 use Rattle.lrat_replay.specs.declared.line.Line.{Line}
 use Rattle.pla_reader.specs.Parts.{Parts}
 use Rattle.report_text.specs.Report.{ReportParts}
 use Rattle.four_lattice.specs.Check.{IsAccepted, adds_empty}
-use Rattle.four_lattice.specs.Judge.{Texts, Task, Judgement, Refused as Refuses, Accepted, Lattices, Encoding, Realised, Refuted, Minima, Stage, Last, PlaRefuses, PlaGives, CnfRefuses, CnfGives, LratRefuses, LratGives, ReportRefuses, ReportGives, LacksOutput, LacksFunction, Denies, LinesRefuse, Comes, JobComes}
+use Rattle.four_lattice.specs.Judge.{Texts, Task, Judgement, Refused as Refuses, Accepted, Lattices, Encoding, Realised, Refuted, Confirmed, Minima, Stage, Last, PlaRefuses, PlaGives, CnfRefuses, CnfGives, LratRefuses, LratGives, ReportRefuses, ReportGives, LacksOutput, LacksFunction, Denies, LinesRefuse, JournalRefuses, JournalGives, Unconfirms, Comes, JobComes}
 use Rattle.four_lattice.specs.Lattices.{IsThere}
 use Rattle.four_lattice.specs.Verified.{IsVerified}
 use Rattle.four_lattice.specs.declared.lattices.Construction.TheVariants as construction
@@ -29,7 +31,7 @@ use Rattle.four_lattice.specs.declared.ending.Refusal.TheVariants as refusal
 use Rattle.four_lattice.specs.declared.ending.Ending.{Ending}
 use Rattle.four_lattice.specs.declared.ending.Ending.TheVariants.{Done, Undecided, Refused, ReadFault, WriteFault, NoMemory}
 use Rattle.four_lattice.specs.declared.words.Job.{Job}
-use Rattle.four_lattice.specs.declared.words.Job.TheVariants.{Pairs, Dual, Cnf, Verify, Check, Synth}
+use Rattle.four_lattice.specs.declared.words.Job.TheVariants.{Pairs, Dual, Cnf, Verify, Check, Audit, Synth}
 use Rattle.four_lattice.proofs.JudgeLaws.{judged_once}
 
 refused_apart : (r : Refusal) (task : Task) → Refuses r ≡ Accepted task → ⊥
@@ -128,6 +130,11 @@ no_words Check x h =
     (λ formula. Stage (List Line) (LratRefuses IfSome x) (LratGives IfSome x) (λ lines. Last (LinesRefuse IfSome x formula lines) (IsAccepted formula lines × (adds_empty formula lines ≡ true)) Refuted)) (λ p. not_input _ p.2)
     (λ formula. stage_words (List Line) (LratRefuses IfSome x) (LratGives IfSome x) (λ lines. Last (LinesRefuse IfSome x formula lines) (IsAccepted formula lines × (adds_empty formula lines ≡ true)) Refuted) (λ p. not_side _ p.2)
     (λ lines. last_words (LinesRefuse IfSome x formula lines) (IsAccepted formula lines × (adds_empty formula lines ≡ true)) Refuted (λ p. elim p.2 [ inl a ↦ not_unconfirmed _ a.3 | inr b ↦ not_unconfirmed _ b.2 ]))) h
+no_words Audit x h =
+    stage_words Parts (PlaRefuses IfSome x) (PlaGives IfSome x)
+    (λ parts. Stage JournalParts (JournalRefuses IfSome x) (JournalGives IfSome x) (λ journal. Last (Unconfirms parts journal) (Audited parts journal) (Confirmed journal))) (λ p. not_input _ p.2)
+    (λ parts. stage_words JournalParts (JournalRefuses IfSome x) (JournalGives IfSome x) (λ journal. Last (Unconfirms parts journal) (Audited parts journal) (Confirmed journal)) (λ p. not_side _ p.2)
+    (λ journal. last_words (Unconfirms parts journal) (Audited parts journal) (Confirmed journal) (λ p. not_unconfirmed _ p.2))) h
 no_words (Synth conflicts output rails) x h =
     let next = λ (parts : Parts). Last (LacksOutput output parts) (IsThere output parts.outputs) (Minima rails conflicts output parts) in
     stage_words Parts (PlaRefuses IfSome x) (PlaGives IfSome x) next (λ p. not_input _ p.2)

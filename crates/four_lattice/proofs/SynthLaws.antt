@@ -31,7 +31,8 @@ use Rattle.journal_text.specs.Parts.{Part, Question, Answered, JournalParts}
 use Rattle.journal_text.specs.Text as text
 use Rattle.journal_text.specs.Text.{part_text, parts_text, front_text, journal_text}
 use Rattle.area_search.specs.Answer.{HoldsOfLattices}
-use Rattle.area_search.specs.Searched.{IsSectionOf, HasNoSection, IsShown, Searched, StoppedSearch}
+use Rattle.area_search.specs.Searched.{StoppedSearch}
+use Rattle.lattice_question.specs.Written.{IsSectionOf, HasNoSection, IsShown, Searched}
 use Rattle.area_search.specs.declared.fault.SearchFault.{SearchFault}
 use Rattle.four_lattice.specs.Devices.{Change, GainsTold}
 use Rattle.four_lattice.specs.Lattices.{IsThere}

@@ -13,7 +13,7 @@ use Rattle.report_text.specs.Report as report
 use Rattle.journal_text.specs.Bounds.{IsPart}
 use Rattle.journal_text.specs.Parts.{Section, Part, Question, Answered}
 use Rattle.journal_text.specs.Text.{head_text, part_text, parts_text, front_text, journal_text}
-use Rattle.area_search.specs.Searched.{IsSectionOf}
+use Rattle.lattice_question.specs.Written.{IsSectionOf}
 use Rattle.four_lattice.specs.Synth.{IsFront, answers_of}
 
 -- ---- fronts

@@ -10,7 +10,7 @@ use Rattle.std.proofs.lemmas.Slice.Eq.{bytes_eq-Decides}
 use Rattle.clap.specs.Matches.{ReadsOne, found_of, one_text}
 use Rattle.clap.specs.declared.parser.matches.ArgMatches.{ArgMatches}
 use Rattle.four_lattice.specs.declared.words.Verb.{Verb}
-use Rattle.four_lattice.specs.declared.words.Verb.TheVariants.{Pairs, Dual, Cnf, Verify, Check, Synth}
+use Rattle.four_lattice.specs.declared.words.Verb.TheVariants.{Pairs, Dual, Cnf, Verify, Check, Audit, Synth}
 use Rattle.four_lattice.specs.Words.{Given, Row, Setting, is_within, given_of, row_of, is_number, is_plain, may_give, number_given}
 use Rattle.four_lattice.specs.WordsParts.{Shows, is_option, is_small, is_spelled, is_table, option_names}
 use Rattle.four_lattice.proofs.WordsNumbers.{all_digits, number_digits, number_plain_sign}
@@ -118,6 +118,7 @@ row_is_table Dual = refl
 row_is_table Cnf = refl
 row_is_table Verify = refl
 row_is_table Check = refl
+row_is_table Audit = refl
 row_is_table Synth = refl
 
 -- what is shown of something that was given is shown of what was given

@@ -1,8 +1,12 @@
 -- The status and the line of notes of an ending.
 use Rattle.std.specs.Prelude.{ℕ, List, [], ◌++◌, codes}
 use Rattle.std.specs.Fmt.{decimal}
+use Rattle.audit_core.specs.declared.refusal.AuditRefusal.{AuditRefusal}
+use Rattle.audit_core.specs.declared.refusal.AuditRefusal.TheVariants as audit
 use Rattle.clause_core.specs.declared.refusal.CnfRefusal.{CnfRefusal}
 use Rattle.clause_core.specs.declared.refusal.CnfRefusal.TheVariants as cnf
+use Rattle.journal_text.specs.declared.refusal.JournalRefusal.{JournalRefusal}
+use Rattle.journal_text.specs.declared.refusal.JournalRefusal.TheVariants as journal
 use Rattle.lrat_replay.specs.declared.fault.StepFault.{StepFault}
 use Rattle.lrat_replay.specs.declared.fault.StepFault.TheVariants as fault
 use Rattle.lrat_replay.specs.declared.refusal.LratRefusal.{LratRefusal}
@@ -20,9 +24,9 @@ use Rattle.four_lattice.specs.declared.status.Status.TheVariants as status
 use Rattle.four_lattice.specs.declared.ending.InputRefusal.{InputRefusal}
 use Rattle.four_lattice.specs.declared.ending.InputRefusal.TheVariants.{Pla, NoSuchOutput, Cnf}
 use Rattle.four_lattice.specs.declared.ending.SideRefusal.{SideRefusal}
-use Rattle.four_lattice.specs.declared.ending.SideRefusal.TheVariants.{TooLong, Report, Lrat}
+use Rattle.four_lattice.specs.declared.ending.SideRefusal.TheVariants.{TooLong, Report, Lrat, Journal}
 use Rattle.four_lattice.specs.declared.ending.Unconfirmed.{Unconfirmed}
-use Rattle.four_lattice.specs.declared.ending.Unconfirmed.TheVariants.{Denied, Step, Unfinished}
+use Rattle.four_lattice.specs.declared.ending.Unconfirmed.TheVariants.{Denied, Step, Unfinished, Unaudited}
 use Rattle.four_lattice.specs.declared.ending.Refusal.{Refusal}
 use Rattle.four_lattice.specs.declared.ending.Refusal.TheVariants as refusal
 use Rattle.four_lattice.specs.declared.ending.Ending.{Ending}
@@ -142,6 +146,34 @@ lrat_name (lrat.Word line) = codes "Word"
 lrat_name (lrat.Form line) = codes "Form"
 lrat_name lrat.NoMemory = codes "NoMemory"
 
+abbrev pub journal_name : JournalRefusal → List ℕ
+journal_name (journal.Header line) = codes "Header"
+journal_name (journal.Rails line) = codes "Rails"
+journal_name (journal.Word line) = codes "Word"
+journal_name (journal.Order line) = codes "Order"
+journal_name (journal.Question line) = codes "Question"
+journal_name (journal.Step line) = codes "Step"
+journal_name (journal.Block line) = codes "Block"
+journal_name (journal.Proofs line) = codes "Proofs"
+journal_name (journal.Trailing line) = codes "Trailing"
+journal_name (journal.Truncated line) = codes "Truncated"
+journal_name journal.NoMemory = codes "NoMemory"
+
+-- a step that replay refuses has the name of its fault
+abbrev pub audit_name : AuditRefusal → List ℕ
+audit_name (audit.Output line) = codes "Output"
+audit_name (audit.Literal line) = codes "Literal"
+audit_name (audit.Wrong line assign) = codes "Wrong"
+audit_name (audit.Step line f) = step_name f
+audit_name (audit.Unfinished line) = codes "Unfinished"
+audit_name (audit.Count line) = codes "Count"
+audit_name (audit.Uncovered line) = codes "Uncovered"
+audit_name (audit.NoSection line) = codes "NoSection"
+audit_name (audit.Large line) = codes "Large"
+audit_name (audit.NoRails line) = codes "NoRails"
+audit_name (audit.Proofs line) = codes "Proofs"
+audit_name audit.NoMemory = codes "NoMemory"
+
 -- where a refusal of a CNF lies
 abbrev pub cnf_spot : CnfRefusal → Spot
 cnf_spot (cnf.Header line) = At line
@@ -170,6 +202,35 @@ lrat_spot (lrat.Word line) = At line
 lrat_spot (lrat.Form line) = At line
 lrat_spot lrat.NoMemory = Nowhere
 
+-- where a refusal of a journal's text lies
+abbrev pub journal_spot : JournalRefusal → Spot
+journal_spot (journal.Header line) = At line
+journal_spot (journal.Rails line) = At line
+journal_spot (journal.Word line) = At line
+journal_spot (journal.Order line) = At line
+journal_spot (journal.Question line) = At line
+journal_spot (journal.Step line) = At line
+journal_spot (journal.Block line) = At line
+journal_spot (journal.Proofs line) = At line
+journal_spot (journal.Trailing line) = At line
+journal_spot (journal.Truncated line) = At line
+journal_spot journal.NoMemory = Nowhere
+
+-- where a journal is not right
+abbrev pub audit_spot : AuditRefusal → Spot
+audit_spot (audit.Output line) = At line
+audit_spot (audit.Literal line) = At line
+audit_spot (audit.Wrong line assign) = AssignmentAt line assign
+audit_spot (audit.Step line f) = At line
+audit_spot (audit.Unfinished line) = At line
+audit_spot (audit.Count line) = At line
+audit_spot (audit.Uncovered line) = At line
+audit_spot (audit.NoSection line) = At line
+audit_spot (audit.Large line) = At line
+audit_spot (audit.NoRails line) = At line
+audit_spot (audit.Proofs line) = At line
+audit_spot audit.NoMemory = Nowhere
+
 abbrev pub input_name : InputRefusal → List ℕ
 input_name (Pla r) = pla_name r
 input_name NoSuchOutput = codes "NoSuchOutput"
@@ -184,21 +245,25 @@ abbrev pub side_name : SideRefusal → List ℕ
 side_name TooLong = codes "TooLong"
 side_name (Report r) = report_name r
 side_name (Lrat r) = lrat_name r
+side_name (Journal r) = journal_name r
 
 abbrev pub side_spot : SideRefusal → Spot
 side_spot TooLong = Nowhere
 side_spot (Report r) = report_spot r
 side_spot (Lrat r) = lrat_spot r
+side_spot (Journal r) = journal_spot r
 
 abbrev pub unconfirmed_name : Unconfirmed → List ℕ
 unconfirmed_name (Denied r) = verify_name r
 unconfirmed_name (Step f line) = step_name f
 unconfirmed_name (Unfinished line) = codes "Unfinished"
+unconfirmed_name (Unaudited r) = audit_name r
 
 abbrev pub unconfirmed_spot : Unconfirmed → Spot
 unconfirmed_spot (Denied r) = verify_spot r
 unconfirmed_spot (Step f line) = At line
 unconfirmed_spot (Unfinished line) = At line
+unconfirmed_spot (Unaudited r) = audit_spot r
 
 -- what the line of notes begins with
 abbrev pub lead_of : Refusal → List ℕ

@@ -4,7 +4,7 @@ use Rattle.clause_core.specs.declared.refusal.CnfRefusal.TheVariants as cnf
 use Rattle.pla_reader.specs.declared.pla.PlaRefusal.TheVariants as pla
 use Rattle.pla_reader.specs.Reading.{Refused}
 use Rattle.four_lattice.specs.Devices.{Change, EndsText}
-use Rattle.four_lattice.specs.Judge.{as_pla, as_cnf, IsCnfRefused, IsLratRefused, IsReportRefused}
+use Rattle.four_lattice.specs.Judge.{as_pla, as_cnf, IsCnfRefused, IsLratRefused, IsReportRefused, IsJournalRefused}
 use Rattle.four_lattice.specs.Uses.{most_pla_bytes, most_cnf_bytes, most_side_bytes}
 use Rattle.four_lattice.specs.declared.ending.SideRefusal.TheVariants.{TooLong}
 use Rattle.four_lattice.specs.declared.ending.Refusal.TheVariants.{Side}
@@ -25,3 +25,7 @@ EndsLrat = EndsText Side (λ r. r ≡ TooLong) IsLratRefused most_side_bytes
 -- Why no report was read of the side file.
 abbrev pub EndsReport : Ending → Change → Type 0
 EndsReport = EndsText Side (λ r. r ≡ TooLong) IsReportRefused most_side_bytes
+
+-- Why no journal was read of the side file.
+abbrev pub EndsJournal : Ending → Change → Type 0
+EndsJournal = EndsText Side (λ r. r ≡ TooLong) IsJournalRefused most_side_bytes

@@ -1,10 +1,14 @@
 -- What the inputs of a command come to: a refusal, or a task that is theirs alone.
 use Rattle.std.specs.Prelude.{◌≡◌, ◌⊎◌, ℕ, ◌<◌, ◌≤◌, true, false, List, length, Ok, Err, Some, None, slice_get, IfSome}
 use Rattle.std.specs.declared.option.Option.{Option}
+use Rattle.audit_core.specs.Audit.{Audited}
+use Rattle.audit_core.specs.declared.refusal.AuditRefusal.{AuditRefusal}
 use Rattle.clause_core.specs.Formula.{Formula}
 use Rattle.clause_core.specs.CnfRead.{cnf_of}
 use Rattle.clause_core.specs.declared.refusal.CnfRefusal.{CnfRefusal}
 use Rattle.cube_core.specs.Function.{Function}
+use Rattle.journal_text.specs.Parts.{JournalParts}
+use Rattle.journal_text.specs.Reading.{Gives as GivesJournal, IsRefused as IsNoJournal}
 use Rattle.lattice_grid.specs.Rectangle.{Size}
 use Rattle.lrat_replay.specs.declared.fault.StepFault.{StepFault}
 use Rattle.lrat_replay.specs.declared.line.Line.{Line}
@@ -15,6 +19,7 @@ use Rattle.pla_reader.specs.Parts.{Parts}
 use Rattle.pla_reader.specs.Reading.{Reads, Refused as IsPlaRefused}
 use Rattle.report_text.specs.Reading.{Gives, IsRefused}
 use Rattle.report_text.specs.Report.{ReportParts}
+use Rattle.four_lattice.specs.Audited.{IsUnaudited}
 use Rattle.four_lattice.specs.Check.{IsFirstFault, IsAccepted, adds_empty, end_line}
 use Rattle.four_lattice.specs.Lattices.{IsThere}
 use Rattle.four_lattice.specs.Uses.{most_side_bytes}
@@ -23,8 +28,8 @@ use Rattle.four_lattice.specs.declared.lattices.Construction.{Construction}
 use Rattle.four_lattice.specs.declared.lattices.Construction.TheVariants as construction
 use Rattle.four_lattice.specs.declared.ending.InputRefusal.TheVariants.{Pla, NoSuchOutput, Cnf}
 use Rattle.four_lattice.specs.declared.ending.SideRefusal.{SideRefusal}
-use Rattle.four_lattice.specs.declared.ending.SideRefusal.TheVariants.{TooLong, Report, Lrat}
-use Rattle.four_lattice.specs.declared.ending.Unconfirmed.TheVariants.{Denied, Step, Unfinished}
+use Rattle.four_lattice.specs.declared.ending.SideRefusal.TheVariants.{TooLong, Report, Lrat, Journal}
+use Rattle.four_lattice.specs.declared.ending.Unconfirmed.TheVariants.{Denied, Step, Unfinished, Unaudited}
 use Rattle.four_lattice.specs.declared.ending.Refusal.{Refusal}
 use Rattle.four_lattice.specs.declared.ending.Refusal.TheVariants.{Words, Input, Side, Unconfirmed}
 use Rattle.four_lattice.specs.declared.verify.VerifyRefusal.{VerifyRefusal}
@@ -42,6 +47,7 @@ pub data Task : Type 0 where
   Encoding : Size → Function → Task
   Realised : ReportParts → Task
   Refuted : Task
+  Confirmed : JournalParts → Task
   Minima : (rails budget : ℕ) → Option ℕ → Parts → Task
 
 pub data Judgement : Type 0 where
@@ -92,6 +98,7 @@ abbrev pub IsLratRefused : List ℕ → SideRefusal → Type 0
 IsLratRefused bytes TooLong = most_side_bytes < length bytes
 IsLratRefused bytes (Report r) = ⊥
 IsLratRefused bytes (Lrat r) = (length bytes ≤ most_side_bytes) × (lrat_of bytes ≡ Err r)
+IsLratRefused bytes (Journal r) = ⊥
 
 abbrev pub LratRefuses : OfTold → Texts → Refusal → Type 0
 LratRefuses Of x = TextRefuses Of x.side Side IsLratRefused
@@ -104,12 +111,26 @@ abbrev pub IsReportRefused : List ℕ → SideRefusal → Type 0
 IsReportRefused bytes TooLong = most_side_bytes < length bytes
 IsReportRefused bytes (Report r) = (length bytes ≤ most_side_bytes) × IsRefused bytes r
 IsReportRefused bytes (Lrat r) = ⊥
+IsReportRefused bytes (Journal r) = ⊥
 
 abbrev pub ReportRefuses : OfTold → Texts → Refusal → Type 0
 ReportRefuses Of x = TextRefuses Of x.side Side IsReportRefused
 
 abbrev pub ReportGives : OfTold → Texts → ReportParts → Type 0
 ReportGives Of x report = Of x.side (λ bytes. (length bytes ≤ most_side_bytes) × Gives bytes (Ok report))
+
+-- a side file with a journal
+abbrev pub IsJournalRefused : List ℕ → SideRefusal → Type 0
+IsJournalRefused bytes TooLong = most_side_bytes < length bytes
+IsJournalRefused bytes (Report r) = ⊥
+IsJournalRefused bytes (Lrat r) = ⊥
+IsJournalRefused bytes (Journal r) = (length bytes ≤ most_side_bytes) × IsNoJournal bytes r
+
+abbrev pub JournalRefuses : OfTold → Texts → Refusal → Type 0
+JournalRefuses Of x = TextRefuses Of x.side Side IsJournalRefused
+
+abbrev pub JournalGives : OfTold → Texts → JournalParts → Type 0
+JournalGives Of x journal = Of x.side (λ bytes. (length bytes ≤ most_side_bytes) × GivesJournal bytes (Ok journal))
 
 -- the PLA has not the chosen output
 abbrev pub LacksOutput : Option ℕ → Parts → Refusal → Type 0
@@ -121,6 +142,10 @@ LacksFunction output parts refusal = (slice_get parts.functions output ≡ None)
 -- the report does not verify
 abbrev pub Denies : Parts → ReportParts → Refusal → Type 0
 Denies parts report refusal = (r : VerifyRefusal) × IsDenied parts report r × (refusal ≡ Unconfirmed (Denied r))
+
+-- the journal is not right
+abbrev pub Unconfirms : Parts → JournalParts → Refusal → Type 0
+Unconfirms parts journal refusal = (r : AuditRefusal) × IsUnaudited parts journal r × (refusal ≡ Unconfirmed (Unaudited r))
 
 -- a line is refused, or none adds the empty clause, and this is the number of the line on which they end
 abbrev pub LinesStop : Formula → List Line → ℕ → Refusal → Type 0
@@ -157,6 +182,13 @@ CheckComes Of x =
     Stage (List Line) (LratRefuses Of x) (LratGives Of x) (λ lines.
     Last (LinesRefuse Of x formula lines) (IsAccepted formula lines × (adds_empty formula lines ≡ true)) Refuted))
 
+-- A journal tested against a PLA.
+abbrev pub AuditComes : OfTold → Texts → Judgement → Type 0
+AuditComes Of x =
+    Stage Parts (PlaRefuses Of x) (PlaGives Of x) (λ parts.
+    Stage JournalParts (JournalRefuses Of x) (JournalGives Of x) (λ journal.
+    Last (Unconfirms parts journal) (Audited parts journal) (Confirmed journal)))
+
 -- Lattices of least area over rails of the chosen outputs of a PLA, with at most so many conflicts for a question.
 abbrev pub SynthComes : OfTold → ℕ → ℕ → Option ℕ → Texts → Judgement → Type 0
 SynthComes Of rails budget output x =
@@ -170,6 +202,7 @@ JobComes Of (job.Dual output) x = LatticesCome Of construction.Dual output x
 JobComes Of (job.Cnf output size) x = EncodingComes Of output size x
 JobComes Of job.Verify x = VerifyComes Of x
 JobComes Of job.Check x = CheckComes Of x
+JobComes Of job.Audit x = AuditComes Of x
 JobComes Of (job.Synth conflicts output rails) x = SynthComes Of rails conflicts output x
 
 -- What words and texts come to. Words that ask for no job are refused.
@@ -185,6 +218,7 @@ Opens (Some (job.Dual output)) x = ⊥
 Opens (Some (job.Cnf output size)) x = ⊥
 Opens (Some job.Verify) x = (parts : Parts) × PlaGives IfSome x parts
 Opens (Some job.Check) x = (formula : Formula) × CnfGives IfSome x formula
+Opens (Some job.Audit) x = (parts : Parts) × PlaGives IfSome x parts
 Opens (Some (job.Synth conflicts output rails)) x = ⊥
 
 -- The inputs are accepted.

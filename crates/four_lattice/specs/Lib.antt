@@ -9,6 +9,7 @@ pub mod Judge
 pub mod Inputs
 pub mod Lattices
 pub mod Verified
+pub mod Audited
 pub mod Synth
 pub mod Minima
 pub mod Work

@@ -14,7 +14,7 @@ use Rattle.journal_text.specs.Parts.{Section, Part, Question, Answered}
 use Rattle.journal_text.specs.Text as text
 use Rattle.journal_text.specs.Text.{parts_text}
 use Rattle.area_search.specs.Answer.{HoldsOfLattices}
-use Rattle.area_search.specs.Searched.{IsSectionOf, HasNoSection, IsShown}
+use Rattle.lattice_question.specs.Written.{IsSectionOf, HasNoSection, IsShown}
 use Rattle.area_search.specs.declared.fault.SearchFault.{SearchFault}
 use Rattle.area_search.specs.declared.fault.SearchFault.TheVariants as searched
 use Rattle.four_lattice.specs.Devices.{Change, Failed, GainsTold}

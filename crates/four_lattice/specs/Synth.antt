@@ -13,7 +13,7 @@ use Rattle.journal_text.specs.Bounds.{IsJournal}
 use Rattle.journal_text.specs.Parts.{Part, Question, Answered, JournalParts}
 use Rattle.journal_text.specs.Text.{front_text, journal_text}
 use Rattle.area_search.specs.Answer.{HoldsOfLattices}
-use Rattle.area_search.specs.Searched.{IsShown}
+use Rattle.lattice_question.specs.Written.{IsShown}
 
 -- A front of a text.
 abbrev pub IsFront : List ℕ → List ℕ → Type 0

@@ -2,7 +2,7 @@
 use Rattle.std.specs.Prelude.{ℕ, Bool, true, false, None, Some}
 use Rattle.std.specs.declared.option.Option.{Option}
 use Rattle.four_lattice.specs.declared.words.Job.{Job}
-use Rattle.four_lattice.specs.declared.words.Job.TheVariants.{Pairs, Dual, Cnf, Verify, Check, Synth}
+use Rattle.four_lattice.specs.declared.words.Job.TheVariants.{Pairs, Dual, Cnf, Verify, Check, Audit, Synth}
 
 -- whether the standard input is read, and the side file, whether a journal is written, and finders are asked
 pub record Uses : Type 0 where
@@ -30,6 +30,7 @@ uses_of (Dual output) = pla_alone
 uses_of (Cnf output size) = pla_alone
 uses_of Verify = pla_and_side
 uses_of Check = pla_and_side
+uses_of Audit = pla_and_side
 uses_of (Synth conflicts output rails) = pla_journal_and_finders
 
 -- words that ask for no job use nothing
@@ -54,6 +55,7 @@ most_bytes_of (Dual output) = most_pla_bytes
 most_bytes_of (Cnf output size) = most_pla_bytes
 most_bytes_of Verify = most_pla_bytes
 most_bytes_of Check = most_cnf_bytes
+most_bytes_of Audit = most_pla_bytes
 most_bytes_of (Synth conflicts output rails) = most_pla_bytes
 
 abbrev pub most_bytes : Option Job → ℕ

@@ -9,7 +9,7 @@ use Rattle.std.specs.Str.Parse.{digits_value}
 use Rattle.four_lattice.specs.declared.words.Job.{Job}
 use Rattle.four_lattice.specs.declared.words.Job.TheVariants as job
 use Rattle.four_lattice.specs.declared.words.Verb.{Verb}
-use Rattle.four_lattice.specs.declared.words.Verb.TheVariants.{Pairs, Dual, Cnf, Verify, Check, Synth}
+use Rattle.four_lattice.specs.declared.words.Verb.TheVariants.{Pairs, Dual, Cnf, Verify, Check, Audit, Synth}
 
 -- a plain word is not empty, and does not begin with `-`
 abbrev pub is_plain : List ℕ → Bool
@@ -57,6 +57,7 @@ row_of Dual = record { options = output_setting ∷ []; wants_file = false }
 row_of Cnf = record { options = rows_setting ∷ cols_setting ∷ output_setting ∷ []; wants_file = false }
 row_of Verify = record { options = []; wants_file = true }
 row_of Check = record { options = []; wants_file = true }
+row_of Audit = record { options = []; wants_file = true }
 row_of Synth = record { options = conflicts_setting ∷ output_setting ∷ rails_setting ∷ []; wants_file = true }
 
 -- the command that a word names
@@ -67,8 +68,9 @@ verb_of word =
     else (if bytes_eq word (codes "cnf") then Some Cnf
     else (if bytes_eq word (codes "verify") then Some Verify
     else (if bytes_eq word (codes "check") then Some Check
+    else (if bytes_eq word (codes "audit") then Some Audit
     else (if bytes_eq word (codes "synth") then Some Synth
-    else None)))))
+    else None))))))
 
 -- options that were given, each a name with its number
 abbrev pub Given : Type 0
@@ -117,6 +119,7 @@ job_from Cnf given =
     option_map (job.Cnf (unwrap_or (number_given (codes "output") given) 0)) (size_given (number_given (codes "rows") given) (number_given (codes "cols") given))
 job_from Verify given = Some job.Verify
 job_from Check given = Some job.Check
+job_from Audit given = Some job.Audit
 job_from Synth given =
     synth_given (unwrap_or (number_given (codes "conflicts") given) 20000) (number_given (codes "output") given) (unwrap_or (number_given (codes "rails") given) 1048575)
 
@@ -132,4 +135,5 @@ IsWithinBounds (job.Dual output) = Unit {0}
 IsWithinBounds (job.Cnf output size) = (size.rows ≤ 16) × (size.cols ≤ 16)
 IsWithinBounds job.Verify = Unit {0}
 IsWithinBounds job.Check = Unit {0}
+IsWithinBounds job.Audit = Unit {0}
 IsWithinBounds (job.Synth conflicts output rails) = conflicts ≤ 200000

@@ -7,7 +7,7 @@ use Rattle.clap.specs.Words.{App, Rule, new_app, new_rule, found_of, one_text}
 use Rattle.clap.specs.declared.builder.value_parser.ValueParser.TheVariants as vp
 use Rattle.clap.specs.declared.parser.matches.ArgMatches.{ArgMatches}
 use Rattle.four_lattice.specs.declared.words.Verb.{Verb}
-use Rattle.four_lattice.specs.declared.words.Verb.TheVariants.{Pairs, Dual, Cnf, Verify, Check, Synth}
+use Rattle.four_lattice.specs.declared.words.Verb.TheVariants.{Pairs, Dual, Cnf, Verify, Check, Audit, Synth}
 use Rattle.four_lattice.specs.Words.{Row, Setting, Given, is_number, is_plain, number_given}
 
 -- the names of all options
@@ -41,6 +41,7 @@ verb_name Dual = codes "dual"
 verb_name Cnf = codes "cnf"
 verb_name Verify = codes "verify"
 verb_name Check = codes "check"
+verb_name Audit = codes "audit"
 verb_name Synth = codes "synth"
 
 -- a row of the table as `clap` is told of it

@@ -7,9 +7,10 @@ use Rattle.cube_core.specs.Function.{Function}
 use Rattle.lattice_grid.specs.Rectangle.{Size}
 use Rattle.reach_encoding.specs.Encoding.{Question, encoding}
 use Rattle.report_text.specs.Report.{ReportParts, report_text}
-use Rattle.four_lattice.specs.Judge.{Task, Lattices, Encoding, Realised, Refuted, Minima}
+use Rattle.journal_text.specs.Parts.{JournalParts}
+use Rattle.four_lattice.specs.Judge.{Task, Lattices, Encoding, Realised, Refuted, Confirmed, Minima}
 use Rattle.four_lattice.specs.Lattices.{report_by}
-use Rattle.four_lattice.specs.Synth.{IsFront, AreMinima, BeginMinima}
+use Rattle.four_lattice.specs.Synth.{IsFront, answers_of, AreMinima, BeginMinima}
 use Rattle.four_lattice.specs.Verified.{IsVerified}
 
 -- what the standard output and the journal got, where the journal tells, and whether an answer in it is undecided
@@ -21,6 +22,10 @@ pub record Written : Type 0 where
 -- how many blocks of a report are right
 abbrev pub realised_text : ReportParts → List ℕ
 realised_text report = codes "realised " ++ (decimal (length report.blocks) ++ codes "\n")
+
+-- how many answers of a journal are right
+abbrev pub confirmed_text : JournalParts → List ℕ
+confirmed_text journal = codes "confirmed " ++ (decimal (length (answers_of journal.parts)) ++ codes "\n")
 
 -- what is asked of a size and a function, on no array, with all literals allowed
 abbrev pub question_of : Size → Function → Question
@@ -43,6 +48,7 @@ Does (Lattices how output parts) w = Says (report_text (report_by how output par
 Does (Encoding size f) w = Says (cnf_text (encoding (question_of size f))) w
 Does (Realised report) w = Says (realised_text report) w
 Does Refuted w = Says (codes "verified\n") w
+Does (Confirmed journal) w = Says (confirmed_text journal) w
 Does (Minima rails budget output parts) w = AreMinima rails budget output parts w.out w.journal w.undecided
 
 -- What stands of it where it broke off.
@@ -51,4 +57,5 @@ Begins (Lattices how output parts) out journal = SaysFront (report_text (report_
 Begins (Encoding size f) out journal = SaysFront (cnf_text (encoding (question_of size f))) out journal
 Begins (Realised report) out journal = SaysFront (realised_text report) out journal
 Begins Refuted out journal = SaysFront (codes "verified\n") out journal
+Begins (Confirmed audited) out journal = SaysFront (confirmed_text audited) out journal
 Begins (Minima rails budget output parts) out journal = BeginMinima rails budget output parts out journal

@@ -4,7 +4,9 @@ ghost use Rattle.four_lattice.specs.Ending.{status_of, refusal_status};
 
 use crate::status::Status;
 use crate::verify::VerifyRefusal;
+use audit_core::refusal::AuditRefusal;
 use clause_core::refusal::CnfRefusal;
+use journal_text::refusal::JournalRefusal;
 use lrat_replay::fault::StepFault;
 use lrat_replay::refusal::LratRefusal;
 use pla_reader::pla::PlaRefusal;
@@ -30,6 +32,8 @@ pub enum SideRefusal {
     Report(ReportRefusal),
     /// It has a line that is no step.
     Lrat(LratRefusal),
+    /// It is no journal.
+    Journal(JournalRefusal),
 }
 
 /// Why the side file is not confirmed.
@@ -41,6 +45,8 @@ pub enum Unconfirmed {
     Step { fault: StepFault, line: u32 },
     /// The lines end, on this line, before the empty clause.
     Unfinished { line: u32 },
+    /// The journal is not right.
+    Unaudited(AuditRefusal),
 }
 
 /// What is refused.

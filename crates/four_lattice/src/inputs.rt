@@ -1,6 +1,10 @@
 //! The inputs of the commands are read.
 ghost use Rattle.std.specs.Prelude.{◌≡◌, ◌≢◌, ℕ, ◌≤◌, length, IfOk, OnOk, IfErr, IfSome, Ok};
 ghost use Rattle.clause_core.specs.CnfRead.{cnf_of};
+ghost use Rattle.journal_text.specs.Bounds.{IsJournal};
+ghost use Rattle.journal_text.specs.Parts.{parts_of_journal};
+ghost use Rattle.journal_text.specs.Reading.{Gives as GivesJournal, HasLineNumbers};
+ghost use Rattle.journal_text.specs.Text.{journal_text};
 ghost use Rattle.lrat_replay.specs.LratRead.{lrat_of};
 ghost use Rattle.pla_reader.specs.Parts.{parts_of, IsPla};
 ghost use Rattle.pla_reader.specs.Reading.{Reads};
@@ -10,7 +14,7 @@ ghost use Rattle.report_text.specs.Report.{parts_of_report};
 ghost use Rattle.wire_io.specs.Told.{IsSpent, LosesUpTo};
 ghost use Rattle.four_lattice.specs.Check.{end_line};
 ghost use Rattle.four_lattice.specs.Devices.{change, unread};
-ghost use Rattle.four_lattice.specs.Inputs.{EndsPla, EndsCnf, EndsLrat, EndsReport};
+ghost use Rattle.four_lattice.specs.Inputs.{EndsPla, EndsCnf, EndsLrat, EndsReport, EndsJournal};
 ghost use Rattle.four_lattice.specs.Uses.{most_pla_bytes, most_cnf_bytes, most_side_bytes};
 
 use crate::check::last_line;
@@ -18,6 +22,9 @@ use crate::ending::{Ending, InputRefusal, Refusal, SideRefusal};
 use clause_core::formula::Formula;
 use clause_core::read::read_cnf;
 use clause_core::refusal::CnfRefusal;
+use journal_text::journal::Journal;
+use journal_text::read::read_journal;
+use journal_text::refusal::JournalRefusal;
 use lrat_replay::line::Line;
 use lrat_replay::read::read_lrat;
 use lrat_replay::refusal::LratRefusal;
@@ -86,6 +93,28 @@ fn ending_of_report(refusal: ReportRefusal) -> Ending
     match refusal {
         ReportRefusal::NoMemory => Ending::NoMemory,
         _ => Ending::Refused(Refusal::Side(SideRefusal::Report(refusal))),
+    }
+}
+
+/// How a run ends that refuses the text of a journal.
+fn ending_of_journal(refusal: JournalRefusal) -> Ending
+    ensures refused { refusal ≢ JournalRefusal.NoMemory → result ≡ Ending.Refused (Refusal.Side (SideRefusal.Journal refusal)) }
+    ensures wanting { refusal ≡ JournalRefusal.NoMemory → result ≡ Ending.NoMemory }
+{
+    match refusal {
+        JournalRefusal::NoMemory => Ending::NoMemory,
+        JournalRefusal::Header { .. }
+        | JournalRefusal::Rails { .. }
+        | JournalRefusal::Word { .. }
+        | JournalRefusal::Order { .. }
+        | JournalRefusal::Question { .. }
+        | JournalRefusal::Step { .. }
+        | JournalRefusal::Block { .. }
+        | JournalRefusal::Proofs { .. }
+        | JournalRefusal::Trailing { .. }
+        | JournalRefusal::Truncated { .. } => {
+            Ending::Refused(Refusal::Side(SideRefusal::Journal(refusal)))
+        }
     }
 }
 
@@ -177,5 +206,26 @@ pub(crate) fn input_report<S: Source>(alloc: Global, side: &mut S) -> Result<Rep
     match read_report(alloc, &bytes) {
         Ok(report) => Ok(report),
         Err(refusal) => Err(ending_of_report(refusal)),
+    }
+}
+
+/// The journal that a side file has, or how the run ends.
+pub(crate) fn input_journal<S: Source>(alloc: Global, side: &mut S) -> Result<Journal, Ending>
+    ensures reads { IfOk result (λ journal. IfSome (S.left side.old) (λ bytes. (length bytes ≤ most_side_bytes) × GivesJournal bytes (Ok (parts_of_journal journal)))) }
+    ensures whole { IfOk result (λ journal. IsJournal (parts_of_journal journal)) }
+    ensures few { IfOk result (λ journal. length (journal_text (parts_of_journal journal)) ≤ most_side_bytes) }
+    ensures lines { IfOk result HasLineNumbers }
+    ensures spent { OnOk result (IsSpent (S.left side.new)) }
+    ensures taken { OnOk result (LosesUpTo (S.left side.old) (S.left side.new) most_side_bytes) }
+    ensures ends { IfErr result (λ ending. EndsJournal ending (change (S.left side.old) (S.faults side.old) (S.left side.new) (S.faults side.new))) }
+    ensures later { S.faults side.old ≤ S.faults side.new }
+{
+    let bytes = match read_all(alloc, side, MOST_SIDE_BYTES) {
+        Ok(bytes) => bytes,
+        Err(fault) => return Err(ending_of_read(fault, Refusal::Side(SideRefusal::TooLong))),
+    };
+    match read_journal(alloc, &bytes) {
+        Ok(journal) => Ok(journal),
+        Err(refusal) => Err(ending_of_journal(refusal)),
     }
 }

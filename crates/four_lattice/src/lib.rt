@@ -1,6 +1,7 @@
 //! Maps each output of a PLA onto a rectangle of switches.
 #![tactic(auto)]
 
+mod audit;
 mod check;
 mod encoding;
 pub mod ending;

@@ -2,13 +2,15 @@
 ghost use Rattle.std.specs.Prelude.{◌≡◌, ℕ, ◌≤◌, ◌++◌, codes, OnOk};
 ghost use Rattle.wire_io.specs.Causes.{HasCause};
 ghost use Rattle.wire_io.specs.Told.{Gains, GainsFront};
-ghost use Rattle.four_lattice.specs.Ending.{lead_of, pla_name, pla_spot, cnf_name, cnf_spot, report_name, report_spot, lrat_name, lrat_spot, verify_name, verify_spot, step_name, input_name, input_spot, side_name, side_spot, unconfirmed_name, unconfirmed_spot, refusal_name, refusal_spot, said, note_text};
+ghost use Rattle.four_lattice.specs.Ending.{lead_of, pla_name, pla_spot, cnf_name, cnf_spot, journal_name, journal_spot, audit_name, audit_spot, report_name, report_spot, lrat_name, lrat_spot, verify_name, verify_spot, step_name, input_name, input_spot, side_name, side_spot, unconfirmed_name, unconfirmed_spot, refusal_name, refusal_spot, said, note_text};
 
 use crate::ending::{Ending, InputRefusal, Refusal, SideRefusal, Unconfirmed};
 use crate::verify::VerifyRefusal;
+use audit_core::refusal::AuditRefusal;
 use clause_core::refusal::CnfRefusal;
 use cube_core::assign::Assign;
 use itoa::Buffer;
+use journal_text::refusal::JournalRefusal;
 use lrat_replay::fault::StepFault;
 use lrat_replay::refusal::LratRefusal;
 use pla_reader::pla::PlaRefusal;
@@ -203,6 +205,84 @@ fn spot_of_lrat(refusal: LratRefusal) -> Spot
     }
 }
 
+/// The name of a refusal of a journal's text.
+fn name_of_journal(refusal: JournalRefusal) -> &'static [u8]
+    ensures { result.now ≡ journal_name refusal }
+{
+    match refusal {
+        JournalRefusal::Header { .. } => b"Header",
+        JournalRefusal::Rails { .. } => b"Rails",
+        JournalRefusal::Word { .. } => b"Word",
+        JournalRefusal::Order { .. } => b"Order",
+        JournalRefusal::Question { .. } => b"Question",
+        JournalRefusal::Step { .. } => b"Step",
+        JournalRefusal::Block { .. } => b"Block",
+        JournalRefusal::Proofs { .. } => b"Proofs",
+        JournalRefusal::Trailing { .. } => b"Trailing",
+        JournalRefusal::Truncated { .. } => b"Truncated",
+        JournalRefusal::NoMemory => b"NoMemory",
+    }
+}
+
+/// The name of why a journal is not right; of a step that replay refuses, its fault's.
+fn name_of_audit(refusal: AuditRefusal) -> &'static [u8]
+    ensures { result.now ≡ audit_name refusal }
+{
+    match refusal {
+        AuditRefusal::Output { .. } => b"Output",
+        AuditRefusal::Literal { .. } => b"Literal",
+        AuditRefusal::Wrong { .. } => b"Wrong",
+        AuditRefusal::Step { fault, .. } => name_of_step(fault),
+        AuditRefusal::Unfinished { .. } => b"Unfinished",
+        AuditRefusal::Count { .. } => b"Count",
+        AuditRefusal::Uncovered { .. } => b"Uncovered",
+        AuditRefusal::NoSection { .. } => b"NoSection",
+        AuditRefusal::Large { .. } => b"Large",
+        AuditRefusal::NoRails { .. } => b"NoRails",
+        AuditRefusal::Proofs { .. } => b"Proofs",
+        AuditRefusal::NoMemory => b"NoMemory",
+    }
+}
+
+/// Where a refusal of a journal's text lies.
+fn spot_of_journal(refusal: JournalRefusal) -> Spot
+    ensures { result ≡ journal_spot refusal }
+{
+    match refusal {
+        JournalRefusal::Header { line }
+        | JournalRefusal::Rails { line }
+        | JournalRefusal::Word { line }
+        | JournalRefusal::Order { line }
+        | JournalRefusal::Question { line }
+        | JournalRefusal::Step { line }
+        | JournalRefusal::Block { line }
+        | JournalRefusal::Proofs { line }
+        | JournalRefusal::Trailing { line }
+        | JournalRefusal::Truncated { line } => Spot::At { line },
+        JournalRefusal::NoMemory => Spot::Nowhere,
+    }
+}
+
+/// Where a journal is not right.
+fn spot_of_audit(refusal: AuditRefusal) -> Spot
+    ensures { result ≡ audit_spot refusal }
+{
+    match refusal {
+        AuditRefusal::Wrong { line, assign } => Spot::AssignmentAt { line, assign },
+        AuditRefusal::Output { line }
+        | AuditRefusal::Literal { line }
+        | AuditRefusal::Step { line, .. }
+        | AuditRefusal::Unfinished { line }
+        | AuditRefusal::Count { line }
+        | AuditRefusal::Uncovered { line }
+        | AuditRefusal::NoSection { line }
+        | AuditRefusal::Large { line }
+        | AuditRefusal::NoRails { line }
+        | AuditRefusal::Proofs { line } => Spot::At { line },
+        AuditRefusal::NoMemory => Spot::Nowhere,
+    }
+}
+
 impl InputRefusal {
     fn name(&self) -> &'static [u8]
         ensures { result.now ≡ input_name self.now }
@@ -233,6 +313,7 @@ impl SideRefusal {
             SideRefusal::TooLong => b"TooLong",
             SideRefusal::Report(refusal) => name_of_report(*refusal),
             SideRefusal::Lrat(refusal) => name_of_lrat(*refusal),
+            SideRefusal::Journal(refusal) => name_of_journal(*refusal),
         }
     }
 
@@ -243,6 +324,7 @@ impl SideRefusal {
             SideRefusal::TooLong => Spot::Nowhere,
             SideRefusal::Report(refusal) => spot_of_report(*refusal),
             SideRefusal::Lrat(refusal) => spot_of_lrat(*refusal),
+            SideRefusal::Journal(refusal) => spot_of_journal(*refusal),
         }
     }
 }
@@ -255,6 +337,7 @@ impl Unconfirmed {
             Unconfirmed::Denied(refusal) => name_of_denial(*refusal),
             Unconfirmed::Step { fault, .. } => name_of_step(*fault),
             Unconfirmed::Unfinished { .. } => b"Unfinished",
+            Unconfirmed::Unaudited(refusal) => name_of_audit(*refusal),
         }
     }
 
@@ -263,6 +346,7 @@ impl Unconfirmed {
     {
         match self {
             Unconfirmed::Denied(refusal) => spot_of_denial(*refusal),
+            Unconfirmed::Unaudited(refusal) => spot_of_audit(*refusal),
             Unconfirmed::Step { line, .. } | Unconfirmed::Unfinished { line } => {
                 Spot::At { line: *line }
             }

@@ -9,6 +9,7 @@ ghost use Rattle.four_lattice.specs.Run.{job_asked, Finishes, FinishesAsked, Ans
 ghost use Rattle.four_lattice.specs.Uses.{uses, uses_of, most_bytes, most_bytes_of};
 ghost use Rattle.four_lattice.specs.Words.{IsWithinBounds};
 
+use crate::audit::end_of_audit;
 use crate::check::end_of_check;
 use crate::encoding::end_of_cnf;
 use crate::ending::{Ending, Finished, Refusal};
@@ -80,6 +81,10 @@ fn end_of_job<S: Source, K: Sink>(
         }
         Job::Check => {
             let ending = end_of_check(alloc, pla, side, out);
+            Finished { ending, journal }
+        }
+        Job::Audit => {
+            let ending = end_of_audit(alloc, pla, side, out);
             Finished { ending, journal }
         }
         Job::Synth {

@@ -34,6 +34,8 @@ pub enum Job {
     Verify,
     /// `check FILE`: whether the steps of a file refute a CNF.
     Check,
+    /// `audit FILE`: whether the journal in a file is right for a PLA.
+    Audit,
     /// `synth FILE`: lattices of least area of a PLA, of one output or of all, over the literals that rails allow, and a
     /// journal in a file that shows it; at most so many conflicts for each question.
     Synth {
@@ -51,6 +53,7 @@ pub(crate) enum Verb {
     Cnf,
     Verify,
     Check,
+    Audit,
     Synth,
 }
 
@@ -97,6 +100,7 @@ pub(crate) fn verb_of(word: &str) -> Option<Verb>
         "cnf" => Some(Verb::Cnf),
         "verify" => Some(Verb::Verify),
         "check" => Some(Verb::Check),
+        "audit" => Some(Verb::Audit),
         "synth" => Some(Verb::Synth),
         _ => None,
     }
@@ -253,6 +257,7 @@ fn command_of<'a>(alloc: Global, verb: Verb) -> Result<Command<'a>, AllocError>
             .arg(output_option(alloc)),
         Verb::Verify => bare_command(alloc, "verify").arg(file_argument(alloc)),
         Verb::Check => bare_command(alloc, "check").arg(file_argument(alloc)),
+        Verb::Audit => bare_command(alloc, "audit").arg(file_argument(alloc)),
         Verb::Synth => bare_command(alloc, "synth")
             .arg(conflicts_option(alloc))?
             .arg(output_option(alloc))?
@@ -334,6 +339,7 @@ fn job_found(verb: Verb, matches: &ArgMatches<'_>) -> Option<Job>
         }
         Verb::Verify => Some(Job::Verify),
         Verb::Check => Some(Job::Check),
+        Verb::Audit => Some(Job::Audit),
         Verb::Synth => synth_found(
             number_found(matches, "conflicts").unwrap_or(USUAL_CONFLICTS),
             number_found(matches, "output"),

@@ -15,6 +15,9 @@ returns-in-Verify-clause-finishes g c = rw c.in-Verify.is (c.end_of_verify-endin
 pub returns-in-Check-clause-finishes : goal.returns-in-Check-clause-finishes
 returns-in-Check-clause-finishes g c = rw c.in-Check.is (c.end_of_check-ending.ensures.finishes (record { told = g.K.Sink.got c.args.journal; faults = g.K.Sink.faults c.args.journal }))
 
+pub returns-in-Audit-clause-finishes : goal.returns-in-Audit-clause-finishes
+returns-in-Audit-clause-finishes g c = rw c.in-Audit.is (c.end_of_audit-ending.ensures.finishes (record { told = g.K.Sink.got c.args.journal; faults = g.K.Sink.faults c.args.journal }))
+
 pub returns-in-Synth-clause-finishes : goal.returns-in-Synth-clause-finishes
 returns-in-Synth-clause-finishes g c = rw c.in-Synth.is c.end_of_synth.ensures.finishes
 

@@ -1,0 +1,14 @@
+//! Journals are tested against a PLA: each section by replay, each answer by its lattice and the sections before it.
+#![tactic(auto)]
+
+mod answer;
+pub mod audit;
+mod begin;
+pub mod laws;
+mod lists;
+mod part;
+pub mod refusal;
+mod same;
+mod section;
+#[cfg(test)]
+mod tests;
