@@ -1,0 +1,18 @@
+# Completion of the commands and options of `lattice` for bash: source this file.
+_lattice() {
+    local word=${COMP_WORDS[COMP_CWORD]} previous=${COMP_WORDS[COMP_CWORD - 1]}
+    if [ "$COMP_CWORD" -eq 1 ]; then
+        COMPREPLY=($(compgen -W "synth dual pairs verify audit cnf check" -- "$word"))
+        return
+    fi
+    case $previous in
+        --*) COMPREPLY=(); return ;;
+    esac
+    case ${COMP_WORDS[1]} in
+        pairs | dual) COMPREPLY=($(compgen -W "--output" -- "$word")) ;;
+        cnf) COMPREPLY=($(compgen -W "--rows --cols --output" -- "$word")) ;;
+        synth) COMPREPLY=($(compgen -W "--conflicts --output --rails" -- "$word") $(compgen -f -- "$word")) ;;
+        verify | check | audit) COMPREPLY=($(compgen -f -- "$word")) ;;
+    esac
+}
+complete -o filenames -F _lattice lattice
