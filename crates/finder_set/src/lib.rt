@@ -4,9 +4,11 @@
 pub mod finder;
 pub mod fold;
 mod folded;
+#[cfg(test)]
+mod hostile;
 pub mod improve;
 mod shrink;
-mod slot;
+pub mod slot;
 mod split;
 pub mod split_and;
 pub mod split_or;

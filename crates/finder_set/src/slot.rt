@@ -1,4 +1,4 @@
-//! What a finder of the kit keeps.
+//! What a finder of one proposal keeps.
 ghost use Rattle.std.specs.Prelude.{◌≡◌, ◌≤◌, None};
 ghost use Rattle.finder_set.specs.Kit.{Turn, one_more};
 
@@ -7,7 +7,7 @@ use std::marker::Model;
 
 /// How often a finder was begun, for how many proposals it may still be asked, and the proposal that it has ready.
 #[derive(Drop)]
-pub(crate) struct Slot {
+pub struct Slot {
     left: u32,
     begun: u64,
     ready: Option<Grid>,
@@ -23,7 +23,7 @@ impl Model for Slot {
 
 impl Slot {
     /// Nothing was begun, and nothing is ready.
-    pub(crate) fn new() -> Slot
+    pub fn new() -> Slot
         ensures { result ≡ record { left = 0; begun = 0; ready = None } }
     {
         Slot {
@@ -34,7 +34,7 @@ impl Slot {
     }
 
     /// Counts a call of `begin`, and keeps no proposal.
-    pub(crate) fn count(&mut self)
+    pub fn count(&mut self)
         ensures counted { self.new ≡ record { left = 0; begun = one_more self.old.begun; ready = None } }
         ensures later { self.old.begun ≤ self.new.begun }
     {
@@ -44,7 +44,7 @@ impl Slot {
     }
 
     /// Makes a proposal ready, or none.
-    pub(crate) fn fill(&mut self, ready: Option<Grid>)
+    pub fn fill(&mut self, ready: Option<Grid>)
         ensures { self.new ≡ record { left = 1; begun = self.old.begun; ready = ready } }
     {
         self.left = 1;
@@ -52,14 +52,14 @@ impl Slot {
     }
 
     /// For how many proposals may still be asked.
-    pub(crate) fn left(&self) -> u32
+    pub fn left(&self) -> u32
         ensures { result ≡ self.now.left }
     {
         self.left
     }
 
     /// Gives out what is ready.
-    pub(crate) fn take(&mut self) -> Option<Grid>
+    pub fn take(&mut self) -> Option<Grid>
         ensures ready { result ≡ self.old.ready }
         ensures spent { self.new ≡ record { left = 0; begun = self.old.begun; ready = None } }
     {

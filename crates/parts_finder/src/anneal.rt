@@ -1,9 +1,9 @@
 //! Lattices changed a cell at a time until they realise a function of few inputs.
 use crate::part::Part;
 use crate::picture::{Picture, drawn};
-use crate::random::Random;
 use crate::shrunk::{Lines, without_line};
 use crate::tester::Tester;
+use finder_tools::random::Random;
 use lattice_grid::control::Control;
 use lattice_grid::grid::Grid;
 use lattice_grid::shape::{Place, Shape};
@@ -86,7 +86,7 @@ fn halves(step: u32) -> u32 {
 fn stays(random: &mut Random, before: u64, now: u64, step: u32) -> bool {
     let more = now.count_ones().saturating_sub(before.count_ones());
     let halves = halves(step).saturating_mul(more);
-    halves < 31 && random.next() & ((1u64 << halves) - 1) == 0
+    halves < 31 && random.next() & ((1u32 << halves) - 1) == 0
 }
 
 impl Sketch {

@@ -11,7 +11,6 @@ mod part;
 pub mod parts;
 mod picture;
 mod products;
-mod random;
 mod shrunk;
 mod solve;
 mod tester;

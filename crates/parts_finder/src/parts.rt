@@ -1,17 +1,18 @@
 //! The finder.
 ghost use Rattle.std.specs.Prelude.{◌≡◌, ◌<◌, ◌≤◌, None, OnOk, OnErr, IfOk, IfSome};
 ghost use Rattle.finder_set.specs.Finders.{area_of};
-ghost use Rattle.finder_set.specs.Kit.{Turn, one_more};
-ghost use Rattle.parts_finder.specs.Proposed.{IsRightBelow};
+ghost use Rattle.finder_set.specs.Kit.{one_more};
+ghost use Rattle.finder_tools.specs.Proposed.{IsRightBelow};
 
 use crate::part::Part;
 use crate::solve::{DEPTH, solve};
 use crate::tester::Tester;
 use cube_core::spec::Spec;
 use finder_set::finder::Finder;
+use finder_set::slot::Slot;
+use finder_tools::proposal::tested;
 use lattice_grid::grid::Grid;
 use path_meaning::marks::Marks;
-use path_meaning::realise::realises;
 use std::alloc::Global;
 use std::marker::Model;
 use wire_io::fault::NoMemory;
@@ -30,9 +31,7 @@ const SMALL: u32 = 2;
 #[derive(Drop)]
 pub struct PartsFinder {
     alloc: Global,
-    left: u32,
-    begun: u64,
-    ready: Option<Grid>,
+    slot: Slot,
 }
 
 impl Model for PartsFinder {
@@ -40,7 +39,7 @@ impl Model for PartsFinder {
 
     ghost Value = { Turn };
 
-    ghost view = { λ parts. record { left = parts.left; begun = parts.begun; ready = parts.ready } };
+    ghost view = { λ parts. parts.slot };
 }
 
 impl PartsFinder {
@@ -50,43 +49,8 @@ impl PartsFinder {
     {
         PartsFinder {
             alloc,
-            left: 0,
-            begun: 0,
-            ready: None,
+            slot: Slot::new(),
         }
-    }
-
-    /// Counts a call of `begin`, and keeps no proposal.
-    fn count(&mut self)
-        ensures counted { self.new ≡ record { left = 0; begun = one_more self.old.begun; ready = None } }
-        ensures later { self.old.begun ≤ self.new.begun }
-    {
-        self.left = 0;
-        self.begun = self.begun.saturating_add(1);
-        self.ready = None;
-    }
-
-    /// Makes a proposal ready, or none.
-    fn fill(&mut self, ready: Option<Grid>)
-        ensures { self.new ≡ record { left = 1; begun = self.old.begun; ready = ready } }
-    {
-        self.left = 1;
-        self.ready = ready;
-    }
-}
-
-/// The lattice, if it is right and smaller than the best one.
-fn tested(spec: &Spec, best: &Grid, grid: Grid, marks: &mut Marks) -> Option<Grid>
-    requires { area_of best.now ≤ marks.old }
-    ensures { IfSome result (IsRightBelow spec.now best.now) }
-{
-    if grid.shape().area() < best.shape().area()
-        && grid.names_below(spec.inputs())
-        && realises(spec, &grid, marks).is_ok()
-    {
-        Some(grid)
-    } else {
-        None
     }
 }
 
@@ -120,14 +84,14 @@ impl Finder for PartsFinder {
         ensures right { OnOk result (IfSome self.new.ready (IsRightBelow spec.now best.now)) }
         ensures nothing { OnErr result (self.new ≡ record { left = 0; begun = one_more self.old.begun; ready = None }) }
     {
-        self.count();
+        self.slot.count();
         let ready = proposed(self.alloc, spec, best)?;
-        self.fill(ready);
+        self.slot.fill(ready);
         Ok(())
     }
 
     fn left(&self) -> u32 {
-        self.left
+        self.slot.left()
     }
 
     /// Gives out the proposal that is ready, and keeps none.
@@ -136,7 +100,6 @@ impl Finder for PartsFinder {
         ensures given { result ≡ Ok self.old.ready }
         ensures spent { self.new ≡ record { left = 0; begun = self.old.begun; ready = None } }
     {
-        self.left = 0;
-        Ok(self.ready.take())
+        Ok(self.slot.take())
     }
 }

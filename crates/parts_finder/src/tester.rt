@@ -1,28 +1,16 @@
 //! What a lattice is at 64 assignments at once.
-ghost use Rattle.std.specs.Prelude.{◌≡◌, ◌+◌, ◌<◌, ◌≤◌, length};
-
 use crate::bits::Bits;
 use crate::part::Part;
+use finder_tools::flood::{last_row, spread};
+use finder_tools::words::on_word;
 use lattice_grid::control::Control;
 use lattice_grid::grid::Grid;
 use std::alloc::Global;
 use wire_io::fault::NoMemory;
 
-/// In which of 64 assignments input i below six is 1.
-const ONES: [u64; 6] = [
-    0xAAAA_AAAA_AAAA_AAAA,
-    0xCCCC_CCCC_CCCC_CCCC,
-    0xF0F0_F0F0_F0F0_F0F0,
-    0xFF00_FF00_FF00_FF00,
-    0xFFFF_0000_FFFF_0000,
-    0xFFFF_FFFF_0000_0000,
-];
-
 /// Tests lattices by a flood at 64 assignments at once, and counts its work: the cells of each flood.
 ///
-/// The cells of the lattice at hand stand row by row, with a cell that is off behind each row, between a row that is reached
-/// and one that is off; each is a word of 64 assignments, where it is on and where a path reaches it. The tests are not
-/// promised to be right.
+/// The cells of the lattice at hand stand as a flood asks. The tests are not promised to be right.
 #[derive(Drop)]
 pub(crate) struct Tester {
     alloc: Global,
@@ -30,111 +18,6 @@ pub(crate) struct Tester {
     reached: Vec<u64>,
     whole: u64,
     left: u64,
-}
-
-/// What a pass over the cells reached.
-#[derive(Clone, Copy, Debug, PartialEq, Eq)]
-enum Pass {
-    More,
-    Nothing,
-}
-
-/// At which of the 64 assignments of the word at a place an input is 1.
-fn ones(input: u8, place: usize) -> u64 {
-    if input < 6 {
-        ONES[input as usize]
-    } else if (place >> (input - 6).min(3)) & 1 == 1 {
-        u64::MAX
-    } else {
-        0
-    }
-}
-
-/// At which of the 64 assignments of the word at a place a control is on.
-fn on_word(control: Control, place: usize) -> u64 {
-    match control {
-        Control::Zero => 0,
-        Control::One => u64::MAX,
-        Control::Plain(input) => ones(input, place),
-        Control::Bar(input) => !ones(input, place),
-    }
-}
-
-/// Reaches a cell from those around it.
-fn reach(on: &[u64], reached: &mut [u64], cell: usize, stride: usize) -> Pass
-    requires same { length on.now ≡ length reached.old }
-    requires before { stride ≤ cell }
-    requires some { 1 ≤ stride }
-    requires after { cell + stride < length reached.old }
-{
-    let around = reached[cell - 1]
-        | reached[cell + 1]
-        | reached[cell - stride]
-        | reached[cell + stride];
-    let now = on[cell] & (reached[cell] | around);
-    if now == reached[cell] {
-        Pass::Nothing
-    } else {
-        reached[cell] = now;
-        Pass::More
-    }
-}
-
-/// Goes through the cells from the first one.
-fn pass_down(on: &[u64], reached: &mut [u64], stride: usize) -> Pass
-    requires same { length on.now ≡ length reached.old }
-    requires some { 1 ≤ stride }
-    requires rows { stride ≤ length on.now }
-{
-    let mut pass = Pass::Nothing;
-    for cell in stride..on.len() - stride {
-        if reach(on, reached, cell, stride) == Pass::More {
-            pass = Pass::More;
-        }
-    }
-    pass
-}
-
-/// Goes through the cells from the last one.
-fn pass_up(on: &[u64], reached: &mut [u64], stride: usize) -> Pass
-    requires same { length on.now ≡ length reached.old }
-    requires some { 1 ≤ stride }
-    requires rows { stride ≤ length on.now }
-{
-    let mut pass = Pass::Nothing;
-    for back in stride..on.len() - stride {
-        if reach(on, reached, on.len() - 1 - back, stride) == Pass::More {
-            pass = Pass::More;
-        }
-    }
-    pass
-}
-
-/// Goes through the cells until nothing more is reached.
-fn spread(on: &[u64], reached: &mut [u64], stride: usize) -> usize {
-    if on.len() != reached.len() || stride < 1 || on.len() < stride {
-        return 0;
-    }
-    for round in 0..on.len() {
-        if pass_down(on, reached, stride) == Pass::Nothing {
-            return round + 1;
-        }
-        if pass_up(on, reached, stride) == Pass::Nothing {
-            return round + 1;
-        }
-    }
-    on.len()
-}
-
-/// At which assignments one of the last cells but one row is reached.
-fn last_row(reached: &[u64], stride: usize) -> u64 {
-    let end = reached.len().saturating_sub(stride);
-    let start = end.saturating_sub(stride);
-    let mut joined = 0;
-    for word in &reached[start..end] {
-        joined |= *word;
-    }
-    joined
 }
 
 impl Tester {
