@@ -1,0 +1,74 @@
+ghost use Rattle.std.specs.Prelude.{◌≤◌};
+
+use crate::repair::RepairFinder;
+use cube_core::assign::{ASSIGNMENTS, Assign};
+use cube_core::spec::Spec;
+use cube_core::table::Table;
+use finder_set::finder::Finder;
+use finder_set::fold::Fold;
+use finder_set::improve::improve;
+use lattice_grid::pairs::pairs;
+use path_meaning::marks::Marks;
+use std::alloc::Global;
+use std::test::*;
+use wire_io::fault::NoMemory;
+
+/// 1 where the number of ones among so many inputs is one of these, each a bit of a number.
+fn symmetric(inputs: u8, counts: u32) -> Option<Spec>
+    requires { inputs ≤ 10 }
+{
+    let mut on = Table::empty();
+    for number in 0..ASSIGNMENTS {
+        if number < 1 << inputs && (counts >> number.count_ones().min(31)) & 1 == 1 {
+            on.add(Assign::new(number)?);
+        }
+    }
+    let off = on.complement(inputs);
+    Spec::new(inputs, on, off)
+}
+
+/// How many cells are left of the pairs lattice once it was folded and mended, where no finder was dropped.
+fn area(alloc: Global, spec: &Spec) -> Result<Option<u32>, NoMemory> {
+    let best = pairs(alloc, spec)?;
+    let mut marks = Marks::new(alloc, best.shape().area())?;
+    let mut finders: Vec<Box<dyn Finder>> = Vec::new(alloc);
+    finders.push(Box::new(alloc, Fold::new(alloc))?)?;
+    finders.push(Box::new(alloc, RepairFinder::new(alloc))?)?;
+    let improved = improve(alloc, &mut finders, spec, best, &mut marks)?;
+    if improved.dropped.is_empty() {
+        Ok(Some(improved.grid.shape().area()))
+    } else {
+        Ok(None)
+    }
+}
+
+// The pairs lattice has 16 cells for both, and the dual product nine for the majority.
+
+#[test]
+fn the_exclusive_or_of_three_inputs(rt: HostRuntime) -> Result<(), Fail> {
+    let spec = symmetric(3, 0b1010).ok_or("a function")?;
+    let cells = area(rt.alloc(), &spec)?.ok_or("a finder")?;
+    assert!(rt; cells < 16, "{cells}");
+    Ok(())
+}
+
+#[test]
+fn a_majority_of_three(rt: HostRuntime) -> Result<(), Fail> {
+    let spec = symmetric(3, 0b1100).ok_or("a function")?;
+    let cells = area(rt.alloc(), &spec)?.ok_or("a finder")?;
+    assert!(rt; cells < 9, "{cells}");
+    Ok(())
+}
+
+#[test]
+fn it_may_be_asked_once_each_time(rt: HostRuntime) -> Result<(), Fail> {
+    let spec = symmetric(2, 0b010).ok_or("a function")?;
+    let best = pairs(rt.alloc(), &spec)?;
+    let mut finder = RepairFinder::new(rt.alloc());
+    assert_eq!(rt; finder.left(), 0);
+    finder.begin(&spec, &best)?;
+    assert_eq!(rt; finder.left(), 1);
+    assert!(rt; finder.propose()?.is_none());
+    assert_eq!(rt; finder.left(), 0);
+    Ok(())
+}
