@@ -7,12 +7,13 @@ use Rattle.lrat_replay.specs.Status.{Known, Rests, IsConflict}
 use Rattle.lrat_replay.proofs.Runs.{IsConsistent}
 use Rattle.clause_solver.specs.Trail.{known_by, oldest, before_last, has_decision, IsFresh, AreFresh}
 use Rattle.clause_solver.specs.Plain.{at_of, AllRest, IsReason, IsConflictAt, HasReason, HaveReasons}
-use Rattle.clause_solver.specs.Analysis.{IsReduced, IsSought, MayResolve, MayKeep, IsAsserting}
+use Rattle.clause_solver.specs.Analysis.{IsReduced, IsSought, MayResolve, MayKeep, IsAsserting, IsAnchor, IsLed}
 use Rattle.clause_solver.specs.declared.value.Value.{Value}
 use Rattle.clause_solver.proofs.AnalyseLaws.{fresh_consistent, first, passed, kept, reason, resolved_here, same_at, hint_more, AreNumbers, numbers_more}
 use Rattle.clause_solver.proofs.Asserting.{sought_first, sought_pass, sought_resolve, sought_keep, sought_end}
 use Rattle.clause_solver.proofs.SomeSeen.{below}
-use Rattle.clause_solver.proofs.Anchor.{IsAnchored, anchored_none, anchored_more}
+use Rattle.clause_solver.proofs.Anchor.{anchored_none, anchored_more}
+use Rattle.clause_solver.proofs.Leading.{IsLeading, leading_none, leading_down, leading_more, leading_end}
 use Rattle.clause_solver.proofs.Levels.{known-oldest, oldest-all, oldest-none, decision-decided}
 
 -- where the newest decision was made propagation was complete
@@ -27,7 +28,8 @@ rested clauses (e ∷ older) h d = by (e.reason) h.0 d (rested clauses older h.1
 pub record IsAnalysis (clauses : List (List Literal)) (values : List Value) (start place : ℕ) (seen : Known) (clause : List Literal) (ids : List ℕ) (after : ℕ) : Type 0 where
   pub reduced : IsReduced (at_of clauses) (known_by values) (oldest place values) seen clause (map pos (reverse ids))
   pub sought : IsSought (known_by (oldest start values)) (oldest place values) seen clause
-  pub anchored : IsAnchored values clause after
+  pub anchored : IsAnchor values clause after
+  pub leading : IsLeading values start place clause after
   pub numbers : AreNumbers clauses ids
 
 module _ (clauses : List (List Literal)) (values : List Value) (fresh : AreFresh values) (reasons : HaveReasons clauses values) (start : ℕ) (inside : start < length values) where
@@ -44,6 +46,7 @@ module _ (clauses : List (List Literal)) (values : List Value) (fresh : AreFresh
         sought = sought_first (known_by (oldest start values)) (oldest n values) (subst (λ vs. IsConsistent (known_by vs)) (sym all) (fresh_consistent values fresh))
             (λ l k. known-oldest values start n l (omega arith) k) clause closed (subst (λ vs. IsConflict (known_by vs) clause) (sym all) clash) seen marked;
         anchored = anchored_none values [] refl;
+        leading = leading_none values start n [] refl;
         numbers = numbers_more clauses [] ids (conflict + 1) conflict clause (λ k d h. absurd (omega arith)) i refl found;
       })
 
@@ -60,6 +63,7 @@ module _ (clauses : List (List Literal)) (values : List Value) (fresh : AreFresh
       reduced = passed clauses values fresh reasons n m v down some is fresh_here seen clause (map pos (reverse ids)) a.reduced u;
       sought = sought_pass (known_by (oldest start values)) v (oldest m values) seen clause sought_here u;
       anchored = a.anchored;
+      leading = leading_down values start n m clause after (omega arith) a.leading;
       numbers = a.numbers;
     }
 
@@ -76,6 +80,7 @@ module _ (clauses : List (List Literal)) (values : List Value) (fresh : AreFresh
       reduced = resolved_here clauses values fresh reasons n m v down some is fresh_here seen clause (map pos (reverse ids)) a.reduced id k seen' (map pos (reverse ids')) more marked (hint_more ids ids' id i);
       sought = sought_resolve (known_by (oldest start values)) v (oldest m values) seen clause sought_here q low seen' more may.place;
       anchored = a.anchored;
+      leading = leading_down values start n m clause after (omega arith) a.leading;
       numbers = numbers_more clauses ids ids' id k.place k.clause a.numbers i k.id_is k.found;
     }
 
@@ -85,6 +90,7 @@ module _ (clauses : List (List Literal)) (values : List Value) (fresh : AreFresh
       reduced = kept clauses values fresh reasons n m v down some is fresh_here seen clause (map pos (reverse ids)) a.reduced clause' grown;
       sought = subst (λ w. IsSought (known_by (oldest start values)) (oldest m values) seen w) (sym grown) (sought_keep (known_by (oldest start values)) v (oldest m values) seen clause sought_here q low may);
       anchored = anchored_more values m v (omega arith) is fresh_here clause clause' grown (λ l h. subst (λ k. known_by (oldest k values) (flip l) ≡ false) next (a.reduced.apart l h)) after after' choice a.anchored;
+      leading = leading_more values start m v is fresh_here seen clause sought_here q low may clause' grown n next after after' choice a.leading;
       numbers = a.numbers;
     } where
       next : n ≡ m + 1
@@ -94,6 +100,11 @@ module _ (clauses : List (List Literal)) (values : List Value) (fresh : AreFresh
   analysis_last n seen clause ids after e a =
       let f = sought_end (known_by (oldest start values)) seen clause (subst (λ vs. IsSought (known_by (oldest start values)) vs seen clause) (oldest-none values n e) a.sought) in
       record { lit = f.lit; is_in = f.is_in; unknown = f.fresh.unknown; others = f.others }
+
+  pub analysis_led : (n : ℕ) (seen : Known) (clause : List Literal) (ids : List ℕ) (after : ℕ) → n ≤ 0 → IsAnalysis clauses values start n seen clause ids after → IsLed values start clause after
+  analysis_led n seen clause ids after e a =
+      let f = sought_end (known_by (oldest start values)) seen clause (subst (λ vs. IsSought (known_by (oldest start values)) vs seen clause) (oldest-none values n e) a.sought) in
+      leading_end values start n clause after f.lit f.is_in a.leading
 
 -- with no decision each value has a reason, and nothing is kept
 pub record IsRefuting (clauses : List (List Literal)) (values : List Value) (place : ℕ) (seen : Known) (ids : List ℕ) : Type 0 where

@@ -1,5 +1,6 @@
 -- How many values stay when the clause of a conflict is learned.
-use Rattle.std.proofs.Common.{◌≡◌, ℕ, ◌+◌, ◌<◌, ◌≤◌, true, false, List, [], ◌∷◌, ◌++◌, length, ◌⊎◌, inl, inr, refl, sym, ap, ◌∙◌, subst, arith}
+use Rattle.std.proofs.Common.{◌≡◌, ℕ, zero, suc, ◌+◌, ◌<◌, ◌≤◌, true, false, List, [], ◌∷◌, ◌++◌, length, ◌⊎◌, inl, inr, refl, sym, ap, ◌∙◌, subst, arith, Some}
+use Rattle.std.specs.Prelude.{slice_get}
 use Rattle.std.proofs.lemmas.Bool.{both_ways}
 use Rattle.std.proofs.lemmas.List.{length-append}
 use Rattle.clause_core.specs.Literal.{Literal, flip, has}
@@ -11,26 +12,26 @@ use Rattle.clause_solver.proofs.Reduce.{value-first}
 use Rattle.clause_solver.proofs.Levels.{unknown-oldest}
 use Rattle.clause_solver.proofs.Asserting.{has-pushed, has-kept}
 
-abbrev pub IsAnchored : List Value → List Literal → ℕ → Type 0
-IsAnchored values clause after = ((length clause ≤ 1) × (after ≡ 0)) ⊎ IsSecond values clause after
-
-pub anchored_none : (values : List Value) (clause : List Literal) → clause ≡ [] → IsAnchored values clause 0
+pub anchored_none : (values : List Value) (clause : List Literal) → clause ≡ [] → IsAnchor values clause 0
 anchored_none values clause e = inl (let l = ap length e in omega arith, refl)
 
-pub anchor : (values : List Value) (clause : List Literal) (after : ℕ) → IsAnchored values clause after → IsAnchor values clause after
-anchor values clause after (inl h) = inl h.1
-anchor values clause after (inr h) = inr h
+get-kept : (xs : List Literal) (x : Literal) (k : ℕ) (l : Literal) → slice_get xs k ≡ Some l → slice_get (xs ++ x ∷ []) k ≡ Some l
+get-kept [] x k l = λ h. absurd (cc)
+get-kept (y ∷ ys) x zero l = λ h. h
+get-kept (y ∷ ys) x (suc k) l = λ h. get-kept ys x k l h
 
 -- one more literal is kept
 module _ (values : List Value) (place : ℕ) (v : Value) (inside : place < length values) (is : oldest (place + 1) values ≡ v ∷ oldest place values) (fresh : IsFresh (known_by (oldest place values)) v.lit)
     (clause clause' : List Literal) (grown : clause' ≡ clause ++ flip v.lit ∷ []) (apart : (l : Literal) → has clause l ≡ true → known_by (oldest (place + 1) values) (flip l) ≡ false) where
-  second : (one : Literal) → has clause one ≡ true → IsSecond values clause' (place + 1)
-  second one h = record {
+  second : (one : Literal) → clause ≡ one ∷ [] → has clause one ≡ true → IsSecond values clause' (place + 1)
+  second one only h = record {
     place = place;
     after_is = refl;
     within = inside;
     one = one;
     two = flip v.lit;
+    one_at = ap (λ c. slice_get c 0) (grown ∙ ap (λ c. c ++ flip v.lit ∷ []) only);
+    two_at = ap (λ c. slice_get c 1) (grown ∙ ap (λ c. c ++ flip v.lit ∷ []) only);
     one_in = subst (λ c. has c one ≡ true) (sym grown) (has-kept clause (flip v.lit) one h);
     two_in = subst (λ c. has c (flip v.lit) ≡ true) (sym grown) (has-pushed clause (flip v.lit));
     apart = λ e. both_ways (known_by (oldest (place + 1) values) (flip one)) (apart one h)
@@ -46,6 +47,8 @@ module _ (values : List Value) (place : ℕ) (v : Value) (inside : place < lengt
     within = s.within;
     one = s.one;
     two = s.two;
+    one_at = ap (λ c. slice_get c 0) grown ∙ get-kept clause (flip v.lit) 0 s.one s.one_at;
+    two_at = ap (λ c. slice_get c 1) grown ∙ get-kept clause (flip v.lit) 1 s.two s.two_at;
     one_in = subst (λ c. has c s.one ≡ true) (sym grown) (has-kept clause (flip v.lit) s.one s.one_in);
     two_in = subst (λ c. has c s.two ≡ true) (sym grown) (has-kept clause (flip v.lit) s.two s.two_in);
     apart = s.apart;
@@ -53,11 +56,12 @@ module _ (values : List Value) (place : ℕ) (v : Value) (inside : place < lengt
     two_unknown = s.two_unknown;
   }
 
-  pub anchored_more : (after after' : ℕ) → ((length clause ≡ 1) × (after' ≡ place + 1)) ⊎ ((length clause ≡ 1 → ⊥) × (after' ≡ after)) → IsAnchored values clause after → IsAnchored values clause' after'
+  pub anchored_more : (after after' : ℕ) → ((length clause ≡ 1) × (after' ≡ place + 1)) ⊎ ((length clause ≡ 1 → ⊥) × (after' ≡ after)) → IsAnchor values clause after → IsAnchor values clause' after'
   anchored_more after after' (inl e) a = inr (subst (IsSecond values clause') (sym e.1) (by clause refl e.0)) where
     by : (c : List Literal) → clause ≡ c → length clause ≡ 1 → IsSecond values clause' (place + 1)
     by [] q e = let l = ap length q in absurd (omega arith)
-    by (x ∷ xs) q e = second x (subst (λ c. has c x ≡ true) (sym q) (has-first x xs))
+    by (x ∷ []) q e = second x q (subst (λ c. has c x ≡ true) (sym q) (has-first x []))
+    by (x ∷ y ∷ xs) q e = let l = ap length q in absurd (omega arith)
   anchored_more after after' (inr e) (inl a) = inl (let l = ap length grown in let k = length-append clause (flip v.lit ∷ []) in many clause clause' after (e.0) a.0 l k, e.1 ∙ a.1) where
     many : (c c' : List Literal) (after : ℕ) → (length c ≡ 1 → ⊥) → length c ≤ 1 → length c' ≡ length (c ++ flip v.lit ∷ []) → length (c ++ flip v.lit ∷ []) ≡ length c + length (flip v.lit ∷ []) → length c' ≤ 1
     many c c' after n h l k = let m : length c < 1 = small (length c) n h in omega arith where

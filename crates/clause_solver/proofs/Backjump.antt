@@ -87,7 +87,7 @@ pub reasons_back : (clauses : List (List Literal)) (clause : List Literal) (valu
     → before_last (oldest keep values) ≡ before_last (oldest after values) → has_decision (oldest keep values) ≡ has_decision (oldest after values) → HaveReasons (clauses ++ clause ∷ []) (oldest keep values)
 reasons_back clauses clause values after keep reasons anchor same decided = reasons_after clauses clause (oldest keep values) (reasons-drop clauses values (length values - keep) reasons) (by anchor) where
   by : IsAnchor values clause after → RestsAtDecisions clause (oldest keep values)
-  by (inl e) = rests_at_zero clause (oldest keep values) (decided ∙ ap has_decision (oldest-none values after (omega (arith, e))))
+  by (inl e) = rests_at_zero clause (oldest keep values) (decided ∙ ap has_decision (oldest-none values after (omega (arith, e.1))))
   by (inr s) =
       let step = oldest-step values s.place s.within in
       let up = ap (λ n. oldest n values) s.after_is ∙ step.1 in

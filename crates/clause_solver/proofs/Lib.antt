@@ -14,3 +14,9 @@ pub mod AnalysisSteps
 pub mod Steps
 pub mod Rounds
 pub mod Solved
+mod Lists
+mod Watching
+mod Visits
+mod Leading
+mod Learning
+mod Searching

@@ -67,6 +67,16 @@ all_over vars clauses i clause a h = let r = get_inside clauses i clause h in su
 pub over_has : (vars : ℕ) (clause : List Literal) (l : Literal) → IsOver vars clause → has clause l ≡ true → IsVariableOf vars l
 over_has vars clause l o h = let r = has_all (λ (x : Literal). (1 ≤ x.var) × (x.var ≤ vars)) clause l (recursion_from_All (λ (x : Literal). (1 ≤ x.var) × (x.var ≤ vars)) clause o) h in record { counted = r.0; within = r.1 }
 
+-- one more literal of these variables
+pub over_none : (vars : ℕ) → IsOver vars []
+over_none vars = λ k d h. absurd (omega arith)
+
+pub over_front : (vars n : ℕ) (x : Literal) (xs : List Literal) → n ≡ vars → IsVariableOf n x → IsOver vars xs → IsOver vars (x ∷ xs)
+over_front vars n x xs e v o = λ k d h. by k d h where
+  by : (k : ℕ) (d : Literal) → k < length (x ∷ xs) → (1 ≤ (get_or (x ∷ xs) k d).var) × ((get_or (x ∷ xs) k d).var ≤ vars)
+  by zero d h = (v.counted, subst (λ m. x.var ≤ m) e v.within)
+  by (suc k) d h = o k d (omega arith)
+
 pub rests_status : (known : Known) (clause : List Literal) → (status known clause ≡ Satisfied) ⊎ (status known clause ≡ Unresolved) → Rests known clause
 rests_status known clause (inl e) = inl (satisfied-is known clause e)
 rests_status known clause (inr e) = inr (unresolved-is known clause e)

@@ -12,7 +12,7 @@ use Rattle.clause_solver.specs.Trail.{Track, known_by, free, unassigned, IsDecid
 use Rattle.clause_solver.specs.Plain.{AllRest, HaveReasons}
 use Rattle.clause_solver.specs.Search.{IsReady, Moment, LearnsNew, LearnsUpTo, DecidesRound, SatisfiesRound, RoundSo}
 use Rattle.clause_solver.specs.declared.search.Round.{Round}
-use Rattle.clause_solver.specs.declared.search.Round.TheVariants.{Decided, Satisfied}
+use Rattle.clause_solver.specs.declared.search.Round.TheVariants.{Learned, Decided, Satisfied, Refuted, Spent}
 use Rattle.clause_solver.proofs.Propagation.{pushed_fewer}
 
 -- no steps
@@ -128,3 +128,17 @@ free_few known (suc n) = let r = free_few known n in by (known (literal_of n)) r
 
 pub unassigned_few : (track : Track) (vars : ℕ) → track.vars ≡ vars → unassigned track < 2 * vars + 3
 unassigned_few track vars e = let r = free_few (known_by track.values) (2 * track.vars + 2) in omega arith
+
+-- a round that began with more values
+pub round_before : (r : Round) (old middle new : Moment) (left : ℕ) → middle.book ≡ old.book → middle.clauses ≡ old.clauses → middle.track.vars ≡ old.track.vars → unassigned middle.track ≤ unassigned old.track → RoundSo r middle new left → RoundSo r old new left
+round_before Learned old middle new left b c v f s = record {
+  some = s.some;
+  goes = s.goes;
+  learns = subst (λ k. LearnsNew k new.book 1) b s.learns;
+  grown = s.grown ∙ ap (λ cs. length cs + 1) c;
+  vars = s.vars ∙ v;
+}
+round_before Decided old middle new left b c v f s = record { goes = s.goes; book = s.book ∙ b; clauses = s.clauses ∙ c; vars = s.vars ∙ v; fewer = let g = s.fewer in omega arith }
+round_before Satisfied old middle new left b c v f s = record { goes = s.goes; book = s.book ∙ b; model = s.model }
+round_before Refuted old middle new left b c v f s = record { whole = s.whole; id = s.id; book = s.book ∙ ap (λ k. after_addition k s.id []) b }
+round_before Spent old middle new left b c v f s = record { none = s.none; goes = s.goes; book = s.book ∙ b; undecided = s.undecided }

@@ -42,6 +42,8 @@ module _ (vars : ℕ) (values : List Value) (fresh : AreFresh values) (over : Ar
         get_or-same (x ∷ c) zero d h = refl
         get_or-same (x ∷ c) (suc k) d h = get_or-same c k d (omega arith)
 
+-- a clause whose literals are all false has no literal and its complement
+module _ (values : List Value) (fresh : AreFresh values) (clause : List Literal) (is_false : (l : Literal) → has clause l ≡ true → known_by values (flip l) ≡ true) where
   pub false_no_tautology : some_flip clause clause ≡ false
   false_no_tautology = elim (cases_Bool (some_flip clause clause)) [
     | inr f ↦ f

@@ -1,5 +1,5 @@
 -- What the analysis of a conflict keeps, value by value from the newest.
-use Rattle.std.specs.Prelude.{◌≡◌, ◌⊎◌, ℕ, ◌+◌, ◌<◌, true, false, List, [], length, Some, ℤ}
+use Rattle.std.specs.Prelude.{◌≡◌, ◌⊎◌, ℕ, ◌+◌, ◌<◌, ◌≤◌, true, false, List, [], length, Some, ℤ, slice_get}
 use Rattle.std.specs.declared.option.Option.{Option}
 use Rattle.clause_core.specs.Literal.{Literal, flip, has}
 use Rattle.lrat_replay.specs.Status.{Known}
@@ -52,13 +52,15 @@ pub record IsAsserting (before : Known) (clause : List Literal) : Type 0 where
   pub unknown : before lit ≡ false
   pub others : (l : Literal) → has clause l ≡ true → (lit ≡ l) ⊎ (before (flip l) ≡ true)
 
--- two different literals of the clause became false with the newest of so many values, or later
+-- the first two literals of the clause, different ones, became false with the newest of so many values, or later
 pub record IsSecond (values : List Value) (clause : List Literal) (after : ℕ) : Type 0 where
   pub place : ℕ
   pub after_is : after ≡ place + 1
   pub within : place < length values
   pub one : Literal
   pub two : Literal
+  pub one_at : slice_get clause 0 ≡ Some one
+  pub two_at : slice_get clause 1 ≡ Some two
   pub one_in : has clause one ≡ true
   pub two_in : has clause two ≡ true
   pub apart : one ≡ two → ⊥
@@ -67,4 +69,12 @@ pub record IsSecond (values : List Value) (clause : List Literal) (after : ℕ) 
 
 -- how many values are left at least when the clause is learned
 abbrev pub IsAnchor : List Value → List Literal → ℕ → Type 0
-IsAnchor values clause after = (after ≡ 0) ⊎ IsSecond values clause after
+IsAnchor values clause after = ((length clause ≤ 1) × (after ≡ 0)) ⊎ IsSecond values clause after
+
+-- the first literal of the clause has no value before the last decision, which so many values came before; the others are false among the values that are left
+pub record IsLed (values : List Value) (start : ℕ) (clause : List Literal) (after : ℕ) : Type 0 where
+  pub first : Literal
+  pub at : slice_get clause 0 ≡ Some first
+  pub fresh : IsFresh (known_by (oldest start values)) first
+  pub within : after ≤ start
+  pub others : (l : Literal) → has clause l ≡ true → (first ≡ l) ⊎ (known_by (oldest after values) (flip l) ≡ true)

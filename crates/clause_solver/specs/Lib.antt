@@ -3,5 +3,7 @@ pub mod Kept
 pub mod Plain
 pub mod Analysis
 pub mod Copy
+pub mod Watch
+pub mod Watching
 pub mod Search
 pub mod Solver

@@ -41,6 +41,13 @@ abbrev pub has_decision : List Value → Bool
 has_decision [] = false
 has_decision (e ∷ older) = elim (e.reason) [ None ↦ true | Some id ↦ has_decision older ]
 
+-- the value at a place, counted from the oldest, was decided
+pub record IsDecidedAt (values : List Value) (place : ℕ) : Type 0 where
+  pub value : Value
+  pub within : place < length values
+  pub is : oldest (place + 1) values ≡ value ∷ oldest place values
+  pub decided : value.reason ≡ None
+
 -- how many literals of numbers below n are not known
 abbrev pub free : Known → ℕ → ℕ
 free known zero = 0

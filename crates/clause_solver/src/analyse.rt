@@ -8,7 +8,7 @@ ghost use Rattle.lrat_replay.specs.Book.{run, denied, Accepted};
 ghost use Rattle.clause_solver.specs.Trail.{known_by, IsFresh, oldest, before_last, has_decision};
 ghost use Rattle.clause_solver.specs.declared.value.Value.{Value};
 ghost use Rattle.clause_solver.specs.Plain.{HaveReasons, IsConflictAt, AllRest, at_of};
-ghost use Rattle.clause_solver.specs.Analysis.{IsSomeSeen, IsNoneSeen, MayResolve, MayKeep, IsAsserting, IsAnchor};
+ghost use Rattle.clause_solver.specs.Analysis.{IsSomeSeen, IsNoneSeen, MayResolve, MayKeep, IsAsserting, IsAnchor, IsLed};
 
 use crate::level::next_decision;
 use crate::trail::Trail;
@@ -114,6 +114,8 @@ pub fn analyse(
     ensures numbers { IfOk result (λ learned. All (λ id. (0 < id) × (id ≤ length clauses.now)) learned.hints.items) }
     ensures is_false { IfOk result (λ learned. (l : Literal) → has learned.clause.items l ≡ true → known_by trail.now.values (flip l) ≡ true) }
     ensures asserts { IfOk result (λ learned. IsAsserting (known_by (oldest start trail.now.values)) learned.clause.items) }
+    ensures over { IfOk result (λ learned. IsOver trail.now.vars learned.clause.items) }
+    ensures led { IfOk result (λ learned. IsLed trail.now.values start learned.clause.items learned.after) }
     ensures anchor { IfOk result (λ learned. IsAnchor trail.now.values learned.clause.items learned.after) }
     ensures room { room seen.new ≡ room seen.old }
 {

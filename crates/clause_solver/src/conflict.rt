@@ -3,25 +3,35 @@ ghost use Rattle.std.specs.Prelude.{◌≡◌, ◌⊎◌, ℕ, ◌+◌, ◌<◌,
 ghost use Rattle.wire_io.specs.Causes.{Rose};
 ghost use Rattle.lrat_replay.specs.Marks.{room};
 ghost use Rattle.lrat_replay.specs.Book.{after_addition};
-ghost use Rattle.clause_solver.specs.Trail.{known_by, oldest, before_last, has_decision};
+ghost use Rattle.clause_solver.specs.Trail.{known_by, oldest, before_last, has_decision, IsDecidedAt};
 ghost use Rattle.clause_solver.specs.Plain.{HaveReasons, IsConflictAt};
 ghost use Rattle.clause_solver.specs.Search.{IsReady, LearnsNew, LearnsUpTo};
+ghost use Rattle.clause_solver.specs.Watching.{IsWorking, IsLearning, HasAdvanced};
 
 use crate::analyse::{analyse, refute};
 use crate::learn::learn;
 use crate::level::next_decision;
-use crate::trail::Trail;
-use clause_core::clauses::Clauses;
+use crate::work::Work;
+use clause_core::lit::Lit;
 use lrat_replay::ledger::{LearnFault, Ledger};
-use lrat_replay::marks::Marks;
 use std::alloc::Global;
+use wire_io::fault::NoMemory;
 
-/// What a search works on: the ledger's clauses, each at the place before its identifier, the trail, and marks.
-#[derive(Drop)]
-pub struct Work {
-    pub clauses: Clauses,
-    pub trail: Trail,
-    pub seen: Marks,
+/// Settles the last clause, which was learned, and makes its first literal true.
+fn settle_learned(work: &mut Work, clause: &[Lit]) -> Result<(), NoMemory>
+    requires learning { IsLearning work.old clause.now }
+    requires few { length work.old.clauses ≤ 2147483647 }
+    ensures working { OnOk result (IsWorking work.new) }
+    ensures advanced { OnOk result (HasAdvanced work.old work.new) }
+{
+    let one = clause[0];
+    work.trail.push(one, Some(work.clauses.len() as u32))?;
+    if clause.len() == 1 {
+        work.watches.pass_over()?;
+        return Ok(());
+    }
+    work.watches.watch(one, clause[1])?;
+    Ok(())
 }
 
 /// Learns the clause of a conflict at a level that begins at `start`, and goes back to where it forces a literal.
@@ -33,14 +43,14 @@ pub fn learn_conflict<L: Ledger>(
     start: usize,
 ) -> Result<(), LearnFault>
     requires ready { IsReady (L.book ledger.old) (L.broken ledger.old) work.old.clauses work.old.trail (room work.old.seen) }
-    requires reasons { HaveReasons work.old.clauses work.old.trail.values }
+    requires working { IsWorking work.old }
     requires conflict { IsConflictAt work.old.clauses (known_by work.old.trail.values) conflict }
-    requires last { start < length work.old.trail.values }
+    requires start { IsDecidedAt work.old.trail.values start }
     requires newest { before_last work.old.trail.values ≡ oldest start work.old.trail.values }
     requires decided { has_decision work.old.trail.values ≡ true }
     requires few { length work.old.clauses < 2147483647 }
     ensures ready { OnOk result (IsReady (L.book ledger.new) (L.broken ledger.new) work.new.clauses work.new.trail (room work.new.seen)) }
-    ensures reasons { OnOk result (HaveReasons work.new.clauses work.new.trail.values) }
+    ensures working { OnOk result (IsWorking work.new) }
     ensures learned { OnOk result (LearnsNew (L.book ledger.old) (L.book ledger.new) 1) }
     ensures vars { OnOk result (work.new.trail.vars ≡ work.old.trail.vars) }
     ensures grown { OnOk result (length work.new.clauses ≡ length work.old.clauses + 1) }
@@ -49,7 +59,6 @@ pub fn learn_conflict<L: Ledger>(
     ensures later { L.faults ledger.old ≤ L.faults ledger.new }
     ensures origin { (L.origin ledger.new ≡ L.origin ledger.old) ⊎ (L.origin ledger.new ≡ []) }
 {
-    let end = work.trail.len();
     let learned = analyse(
         alloc,
         &work.trail,
@@ -58,6 +67,9 @@ pub fn learn_conflict<L: Ledger>(
         conflict,
         start,
     )?;
+    let keep = next_decision(&work.trail, learned.after, start);
+    work.trail.back(keep);
+    work.looked = keep;
     learn(
         alloc,
         ledger,
@@ -65,8 +77,7 @@ pub fn learn_conflict<L: Ledger>(
         &learned.clause,
         &learned.hints,
     )?;
-    let keep = next_decision(&work.trail, learned.after, end);
-    work.trail.back(keep);
+    settle_learned(work, &learned.clause)?;
     Ok(())
 }
 

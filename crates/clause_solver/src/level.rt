@@ -1,6 +1,6 @@
 //! Where levels begin: the decisions of a trail.
-ghost use Rattle.std.specs.Prelude.{◌≡◌, ◌<◌, ◌≤◌, true, false, length, IfSome, IfNone};
-ghost use Rattle.clause_solver.specs.Trail.{oldest, before_last, has_decision, AreFresh};
+ghost use Rattle.std.specs.Prelude.{◌≡◌, ◌⊎◌, ◌<◌, ◌≤◌, true, false, length, IfSome, IfNone};
+ghost use Rattle.clause_solver.specs.Trail.{oldest, before_last, has_decision, AreFresh, IsDecidedAt};
 
 use crate::trail::Trail;
 
@@ -12,18 +12,21 @@ pub fn next_decision(trail: &Trail, from: usize, end: usize) -> usize
     ensures within { result ≤ end }
     ensures before { before_last (oldest result trail.now.values) ≡ before_last (oldest from trail.now.values) }
     ensures decided { has_decision (oldest result trail.now.values) ≡ has_decision (oldest from trail.now.values) }
+    ensures ends { (result ≡ end) ⊎ IsDecidedAt trail.now.values result }
 {
-    let mut place = from;
-    while place < end && trail.value(place).reason.is_some() {
-        place += 1;
+    for place in from..end {
+        if trail.value(place).reason.is_none() {
+            return place;
+        }
     }
-    place
+    end
 }
 
 /// The place of the newest decision.
 pub fn last_decision(trail: &Trail) -> Option<usize>
     ensures within { IfSome result (λ place. place < length trail.now.values) }
     ensures before { IfSome result (λ place. before_last trail.now.values ≡ oldest place trail.now.values) }
+    ensures at { IfSome result (IsDecidedAt trail.now.values) }
     ensures some { IfSome result (λ place. has_decision trail.now.values ≡ true) }
     ensures none { IfNone result (has_decision trail.now.values ≡ false) }
     ensures fresh { AreFresh trail.now.values }

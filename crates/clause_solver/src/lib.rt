@@ -7,6 +7,8 @@ mod decide;
 mod learn;
 mod level;
 mod model;
+#[cfg(test)]
+mod plain;
 mod propagate;
 mod search;
 pub mod solver;
@@ -15,3 +17,5 @@ mod tests;
 mod trail;
 mod value;
 pub mod verdict;
+mod watch;
+mod work;

@@ -5,12 +5,15 @@ ghost use Rattle.lrat_replay.specs.Marks.{room};
 ghost use Rattle.clause_solver.specs.Trail.{known_by, AreValued, IsDecided};
 ghost use Rattle.clause_solver.specs.Plain.{IsConflictAt};
 ghost use Rattle.clause_solver.specs.Search.{IsReady, Goes, RoundSo, SearchSo, LearnsUpTo};
+ghost use Rattle.clause_solver.specs.Watching.{IsWorking};
 
-use crate::conflict::{Work, learn_conflict, refute_conflict};
+use crate::conflict::{learn_conflict, refute_conflict};
 use crate::decide::least_unassigned;
 use crate::level::last_decision;
 use crate::propagate::propagate;
 use crate::trail::Trail;
+use crate::watch::Watches;
+use crate::work::Work;
 use lrat_replay::ledger::{LearnFault, Ledger};
 use std::alloc::Global;
 use wire_io::fault::NoMemory;
@@ -62,9 +65,11 @@ fn end_at_conflict<L: Ledger>(
     conflict: usize,
     left: u32,
 ) -> Result<Round, LearnFault>
+    requires working { IsWorking work.old }
     requires goes { Goes (record { book = L.book ledger.old; broken = L.broken ledger.old; clauses = work.old.clauses; track = work.old.trail; width = room work.old.seen }) }
     requires conflict { IsConflictAt work.old.clauses (known_by work.old.trail.values) conflict }
     requires few { length work.old.clauses < 2147483647 }
+    ensures working { (result ≡ Ok Round.Learned) ⊎ (result ≡ Ok Round.Decided) → IsWorking work.new }
     ensures so { IfOk result (λ round. RoundSo round (record { book = L.book ledger.old; broken = L.broken ledger.old; clauses = work.old.clauses; track = work.old.trail; width = room work.old.seen }) (record { book = L.book ledger.new; broken = L.broken ledger.new; clauses = work.new.clauses; track = work.new.trail; width = room work.new.seen }) left) }
     ensures at_most { LearnsUpTo (L.book ledger.old) (L.book ledger.new) left }
     ensures cause { result ≡ Err LearnFault.Failed → Rose (L.faults ledger.old) (L.faults ledger.new) }
@@ -89,15 +94,17 @@ fn next_round<L: Ledger>(
     work: &mut Work,
     left: u32,
 ) -> Result<Round, LearnFault>
+    requires working { IsWorking work.old }
     requires goes { Goes (record { book = L.book ledger.old; broken = L.broken ledger.old; clauses = work.old.clauses; track = work.old.trail; width = room work.old.seen }) }
     requires few { length work.old.clauses < 2147483647 }
+    ensures working { (result ≡ Ok Round.Learned) ⊎ (result ≡ Ok Round.Decided) → IsWorking work.new }
     ensures so { IfOk result (λ round. RoundSo round (record { book = L.book ledger.old; broken = L.broken ledger.old; clauses = work.old.clauses; track = work.old.trail; width = room work.old.seen }) (record { book = L.book ledger.new; broken = L.broken ledger.new; clauses = work.new.clauses; track = work.new.trail; width = room work.new.seen }) left) }
     ensures at_most { LearnsUpTo (L.book ledger.old) (L.book ledger.new) left }
     ensures cause { result ≡ Err LearnFault.Failed → Rose (L.faults ledger.old) (L.faults ledger.new) }
     ensures later { L.faults ledger.old ≤ L.faults ledger.new }
     ensures origin { (L.origin ledger.new ≡ L.origin ledger.old) ⊎ (L.origin ledger.new ≡ []) }
 {
-    match propagate(&mut work.trail, &work.clauses)? {
+    match propagate(work)? {
         None => Ok(decide(&mut work.trail)?),
         Some(conflict) => end_at_conflict(alloc, ledger, work, conflict, left),
     }
@@ -118,7 +125,10 @@ pub fn search<L: Ledger>(
     ensures later { L.faults ledger.old ≤ L.faults ledger.new }
     ensures origin { (L.origin ledger.new ≡ L.origin ledger.old) ⊎ (L.origin ledger.new ≡ []) }
 {
+    let width = 2 * work.trail.vars() as usize + 2;
     work.trail.back(0);
+    work.looked = 0;
+    work.watches = Watches::new(alloc, width)?;
     let mut learned = 0;
     loop {
         match next_round(alloc, ledger, work, budget - learned)? {

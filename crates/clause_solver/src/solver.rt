@@ -10,11 +10,12 @@ ghost use Rattle.lrat_replay.specs.New.{IsOpen};
 ghost use Rattle.clause_solver.specs.Search.{LearnsNew, LearnsUpTo};
 ghost use Rattle.clause_solver.specs.Solver.{stage_after, IsKept, IsSatisfiedAgain};
 
-use crate::conflict::Work;
 use crate::model::valuation;
 use crate::search::{Ending, search};
 use crate::trail::Trail;
 use crate::verdict::{SolveFault, Stage, Verdict};
+use crate::watch::Watches;
+use crate::work::Work;
 use clause_core::clauses::Clauses;
 use clause_core::formula::Formula;
 use lrat_replay::ledger::{LearnFault, Ledger};
@@ -24,7 +25,7 @@ use std::marker::Model;
 use wire_io::fault::{NoMemory, Stopped};
 
 /// The clauses of a formula.
-fn clauses_of(alloc: Global, formula: &Formula) -> Result<Clauses, NoMemory>
+pub(crate) fn clauses_of(alloc: Global, formula: &Formula) -> Result<Clauses, NoMemory>
     ensures clauses { IfOk result (λ clauses. clauses ≡ formula.now.clauses) }
     ensures over { IfOk result (λ clauses. All (IsOver formula.now.vars) clauses) }
 {
@@ -47,6 +48,8 @@ fn work_of(alloc: Global, formula: &Formula) -> Result<Work, NoMemory>
         clauses: clauses_of(alloc, formula)?,
         trail: Trail::new(alloc, vars)?,
         seen: Marks::new(alloc, 2 * vars as usize + 2)?,
+        watches: Watches::new(alloc, 0)?,
+        looked: 0,
     })
 }
 

@@ -1,4 +1,9 @@
-use crate::solver::Solver;
+ghost use Rattle.std.specs.Prelude.{IfSome};
+ghost use Rattle.clause_solver.specs.Trail.{IsVariableOf};
+
+use crate::plain::propagate;
+use crate::solver::{Solver, clauses_of};
+use crate::trail::Trail;
 use crate::verdict::{SolveFault, Stage, Verdict};
 use clause_core::formula::Formula;
 use clause_core::lit::Lit;
@@ -8,6 +13,7 @@ use lrat_replay::ledger::{LearnFault, Ledger};
 use lrat_replay::replay::Replay;
 use lrat_replay::tally::Tally;
 use std::alloc::Global;
+use std::fmt::Write;
 use std::test::Fail;
 
 const FOUR: &[u8] = b"p cnf 2 4\n1 2 0\n1 -2 0\n-1 2 0\n-1 -2 0\n";
@@ -162,5 +168,143 @@ fn a_ledger_that_fails_ends_the_solver(rt: HostRuntime) -> Result<(), Fail> {
     assert_eq!(rt; solver.stage(), Stage::Failed);
     assert_eq!(rt; fault_of(solve(&mut solver, 5)), Some(SolveFault::Over));
     assert!(rt; solver.into_ledger().failed);
+    Ok(())
+}
+
+/// A literal of one of the first so many variables.
+fn literal(vars: u32, var: u32, negated: bool) -> Option<Lit>
+    ensures { IfSome result (IsVariableOf vars) }
+{
+    if var < 1 || var > vars || var > 1_000_000 {
+        return None;
+    }
+    Some(Lit::new(var, negated))
+}
+
+/// Adds the clause of a variable.
+fn add_start(formula: &mut Formula, var: u32) -> Option<()> {
+    let one = literal(formula.vars(), var, false)?;
+    if formula.count() > 1_000_000 {
+        return None;
+    }
+    formula.push(&[one]).ok()
+}
+
+/// Adds the clause by which one variable forces another.
+fn add_link(formula: &mut Formula, from: u32, to: u32) -> Option<()> {
+    let one = literal(formula.vars(), from, true)?;
+    let two = literal(formula.vars(), to, false)?;
+    if formula.count() > 1_000_000 {
+        return None;
+    }
+    formula.push(&[one, two]).ok()
+}
+
+/// Adds a clause by which two variables force a third one, or its complement.
+fn add_end(formula: &mut Formula, from: u32, and: u32, to: u32, negated: bool) -> Option<()> {
+    let one = literal(formula.vars(), from, true)?;
+    let two = literal(formula.vars(), and, true)?;
+    let three = literal(formula.vars(), to, negated)?;
+    if formula.count() > 1_000_000 {
+        return None;
+    }
+    formula.push(&[one, two, three]).ok()
+}
+
+/// Two chains of so many links each, and two clauses that clash once both chains are whole. Read in order, or in the reverse
+/// order, the clauses force one value of one chain each time.
+fn chains(alloc: Global, links: u32) -> Option<Formula> {
+    if links < 1 || links > 200_000 {
+        return None;
+    }
+    let last = 2 * links + 1;
+    let mut formula = Formula::new(alloc, last);
+    add_start(&mut formula, 1)?;
+    add_start(&mut formula, links + 1)?;
+    for back in 1..links {
+        add_link(&mut formula, links - back, links - back + 1)?;
+    }
+    for link in 1..links {
+        add_link(&mut formula, links + link, links + link + 1)?;
+    }
+    add_end(&mut formula, links, 2 * links, last, false)?;
+    add_end(&mut formula, links, 2 * links, last, true)?;
+    Some(formula)
+}
+
+#[test]
+fn two_chains_are_refuted_by_propagation(rt: HostRuntime) -> Result<(), Fail> {
+    let alloc = rt.alloc();
+    let formula = chains(alloc, 200_000).ok_or("memory")?;
+    let replay = Replay::new(alloc, formula).ok().ok_or("memory")?;
+    let mut solver = Solver::new(alloc, replay).ok().ok_or("memory")?;
+    assert!(rt; solve(&mut solver, 0).is_some_and(|answer| answer.is_ok()));
+    assert_eq!(rt; solver.stage(), Stage::Refuted);
+    assert_eq!(rt; solver.ledger().last_id(), 400_003);
+    assert!(rt; solver.into_ledger().reached());
+    Ok(())
+}
+
+/// A formula over four variables, made from a number.
+fn made(alloc: Global, number: u32) -> Result<String, Fail> {
+    let mut text = String::new(alloc);
+    let mut state = number;
+    write!(text, "p cnf 4 14\n")?;
+    for _row in 0..14 {
+        let width = 2 + (state >> 20) % 2;
+        for _lit in 0..width {
+            state = state.wrapping_mul(1_664_525).wrapping_add(1_013_904_223);
+            let sign = if state >> 31 == 0 { "" } else { "-" };
+            write!(text, "{sign}{} ", 1 + (state >> 16) % 4)?;
+        }
+        write!(text, "0\n")?;
+    }
+    Ok(text)
+}
+
+/// Whether some of the sixteen valuations of four variables satisfies a formula.
+fn has_solution(alloc: Global, formula: &Formula) -> Result<bool, Fail> {
+    for number in 0..16u32 {
+        let mut values = Vec::new(alloc);
+        values.push(number % 2 == 1)?;
+        values.push(number / 2 % 2 == 1)?;
+        values.push(number / 4 % 2 == 1)?;
+        values.push(number / 8 == 1)?;
+        let valuation = Valuation::new(values);
+        if formula.vars() <= valuation.vars() && formula.satisfied_by(&valuation) {
+            return Ok(true);
+        }
+    }
+    Ok(false)
+}
+
+/// Whether scanning all clauses ends in a conflict where nothing is decided.
+fn is_refuted_by_scans(alloc: Global, formula: &Formula) -> Result<bool, Fail> {
+    let _count = formula.count();
+    let clauses = clauses_of(alloc, formula).ok().ok_or("memory")?;
+    let mut trail = Trail::new(alloc, formula.vars()).ok().ok_or("memory")?;
+    let conflict = propagate(&mut trail, &clauses).ok().ok_or("memory")?;
+    Ok(conflict.is_some())
+}
+
+#[test]
+fn made_formulas_are_judged_alike(rt: HostRuntime) -> Result<(), Fail> {
+    let alloc = rt.alloc();
+    let mut refuted = 0u32;
+    for number in 0..300 {
+        let text = made(alloc, number)?;
+        let formula = read_cnf(alloc, text.as_bytes())?;
+        let mut solver = solver_of(alloc, text.as_bytes())?;
+        assert!(rt; solve(&mut solver, 0).is_some_and(|answer| answer.is_ok()));
+        let at_once = solver.stage() == Stage::Refuted;
+        assert_eq!(rt; at_once, is_refuted_by_scans(alloc, &formula)?);
+        assert!(rt; solve(&mut solver, 80).is_some_and(|answer| answer.is_ok()));
+        let satisfied = solver.stage() == Stage::Satisfied;
+        assert_eq!(rt; satisfied, has_solution(alloc, &formula)?);
+        if !satisfied && !at_once {
+            refuted = refuted.saturating_add(1);
+        }
+    }
+    assert!(rt; refuted > 20);
     Ok(())
 }

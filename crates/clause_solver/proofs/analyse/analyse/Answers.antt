@@ -7,8 +7,8 @@ use Rattle.lrat_replay.proofs.DenyLaws.{fits_over}
 use Rattle.clause_solver.specs.Plain.{at_of}
 use Rattle.clause_solver.proofs.Propagation.{all_over, get_inside}
 use Rattle.clause_solver.proofs.AnalyseLaws.{last, same_at, AreNumbers, numbers_reverse}
-use Rattle.clause_solver.proofs.AnalysisSteps.{analysis_first, analysis_pass, analysis_resolve, analysis_keep, analysis_last, reason_here}
-use Rattle.clause_solver.proofs.Anchor.{anchor}
+use Rattle.clause_solver.proofs.AnalysisSteps.{analysis_first, analysis_pass, analysis_resolve, analysis_keep, analysis_last, analysis_led, reason_here}
+use Rattle.clause_solver.proofs.Steps.{false_over}
 use Rattle.clause_solver.proofs.analyse.analyse.Goals as goal
 
 pub mark-requires : goal.mark-requires
@@ -80,5 +80,8 @@ returns-clause-numbers c = subst (AreNumbers c.args.clauses.now) (sym c.reverse.
 pub returns-clause-asserts : goal.returns-clause-asserts
 returns-clause-asserts c = analysis_last c.args.clauses.now c.args.trail.now.values c.len-place.ensures.fresh c.requires.reasons c.args.start c.requires.last c.loop-place.place (known_of c.loop-place.seen) c.loop-place.clause.items c.loop-place.hints.items c.loop-place.after c.loop-place-test.false c.loop-place.invariant.analysis
 
-pub returns-clause-anchor : goal.returns-clause-anchor
-returns-clause-anchor c = anchor c.args.trail.now.values c.loop-place.clause.items c.loop-place.after c.loop-place.invariant.analysis.anchored
+pub returns-clause-led : goal.returns-clause-led
+returns-clause-led c = analysis_led c.args.clauses.now c.args.trail.now.values c.len-place.ensures.fresh c.requires.reasons c.args.start c.requires.last c.loop-place.place (known_of c.loop-place.seen) c.loop-place.clause.items c.loop-place.hints.items c.loop-place.after c.loop-place-test.false c.loop-place.invariant.analysis
+
+pub returns-clause-over : goal.returns-clause-over
+returns-clause-over c = false_over c.args.trail.now.vars c.args.trail.now.values c.len-place.ensures.fresh c.len-place.ensures.over c.loop-place.clause.items c.loop-place.invariant.analysis.reduced.is_false

@@ -1,4 +1,4 @@
-use Rattle.std.proofs.Common.{◌≡◌, ◌≤◌, ◌-◌}
+use Rattle.std.proofs.Common.{◌≡◌, ◌≤◌}
 use Rattle.clause_solver.specs.Trail.{oldest, before_last, has_decision}
 use Rattle.clause_solver.proofs.level.next_decision.Given as goal
 
@@ -9,6 +9,3 @@ invariant-loop-place l = record {
   before : before_last (oldest l.place l.trail.values) ≡ before_last (oldest l.from l.trail.values);
   decided : has_decision (oldest l.place l.trail.values) ≡ has_decision (oldest l.from l.trail.values);
 }
-
-abbrev pub decreases-loop-place : goal.decreases-loop-place
-decreases-loop-place l = l.end - l.place

@@ -1,14 +1,15 @@
-use Rattle.std.proofs.Common.{◌≡◌, ◌≤◌}
+use Rattle.std.proofs.Common.{◌+◌, ◌-◌, ◌≤◌, length}
 use Rattle.clause_solver.specs.Trail.{unassigned}
-use Rattle.clause_solver.specs.Plain.{HaveReasons}
+use Rattle.clause_solver.specs.Watch.{count}
+use Rattle.clause_solver.specs.Watching.{IsWorking, HasAdvanced}
 use Rattle.clause_solver.proofs.propagate.propagate.Given as goal
 
-abbrev pub invariant-loop-place : goal.invariant-loop-place
-invariant-loop-place l = record {
-  reasons : HaveReasons l.clauses l.trail.values;
-  vars : l.trail.vars ≡ l.fn.trail.vars;
-  fewer : unassigned l.trail ≤ unassigned l.fn.trail;
+abbrev pub invariant-loop-work : goal.invariant-loop-work
+invariant-loop-work l = record {
+  working : IsWorking l.work;
+  settled : length l.work.clauses ≤ count l.work.watches;
+  advanced : HasAdvanced l.fn.work l.work;
 }
 
-abbrev pub decreases-loop-place : goal.decreases-loop-place
-decreases-loop-place l = unassigned l.trail
+abbrev pub decreases-loop-work : goal.decreases-loop-work
+decreases-loop-work l = (unassigned l.work.trail + length l.work.trail.values) - l.work.looked

@@ -1,6 +1,8 @@
-use Rattle.std.proofs.Common.{◌+◌, ◌-◌, ◌<◌, ◌*◌, ◌∙◌, refl, arith}
-use Rattle.clause_solver.specs.Trail.{unassigned}
-use Rattle.clause_solver.proofs.Rounds.{learns_more, up_to_more, origin_more, round_measure, unassigned_few}
+use Rattle.std.proofs.Common.{◌+◌, ◌-◌, ◌<◌, ◌*◌, length, ◌∙◌, refl, sym, ap, subst, inl, inr, arith, Ok}
+use Rattle.clause_solver.specs.Trail.{Track, unassigned}
+use Rattle.clause_solver.specs.Search.{LearnsNew}
+use Rattle.clause_solver.proofs.Searching.{working_begun, goes_begun}
+use Rattle.clause_solver.proofs.Rounds.{learns_none, learns_more, up_to_more, origin_more, round_measure, unassigned_few}
 use Rattle.clause_solver.proofs.search.search.Goals as goal
 
 pub returns-in_err-next_round-clause-at_most : goal.returns-in_err-next_round-clause-at_most
@@ -35,9 +37,36 @@ loop-learned-preserved-in-Learned g c =
     let round = rw c.in-Learned.is at c.in_ok-next_round.ensures.so in
     record {
       within = let s = round.some in omega arith;
+      working = c.next_round.ensures.working (inl (c.in_ok-next_round.was ∙ ap Ok c.in-Learned.is));
       goes = round.goes;
       learns = learns_more (g.L.Ledger.book c.args.ledger.now) (g.L.Ledger.book c.loop-learned.ledger) (g.L.Ledger.book c.next_round.new.ledger) c.loop-learned.learned 1 (c.loop-learned.learned + 1) c.loop-learned.invariant.learns round.learns refl;
       many = let r = round.grown in let m = c.loop-learned.invariant.many in omega arith;
+      vars = round.vars ∙ c.loop-learned.invariant.vars;
+      later = omega (arith, c.loop-learned.invariant.later, c.next_round.ensures.later);
+      origin = origin_more (g.L.Ledger.origin c.args.ledger.now) (g.L.Ledger.origin c.loop-learned.ledger) (g.L.Ledger.origin c.next_round.new.ledger) c.loop-learned.invariant.origin c.next_round.ensures.origin;
+    }
+
+pub loop-learned-init : goal.loop-learned-init
+loop-learned-init g c = record {
+  within = omega arith;
+  working = working_begun (g.L.Ledger.book c.args.ledger.now) (g.L.Ledger.broken c.args.ledger.now) c.args.work.now c.requires.ready c.back.new.self c.back.ensures c.in_ok-work.field-0 (omega (arith, c.in_ok-work.ensures.width, c.vars.ensures.value)) c.in_ok-work.ensures.none;
+  goes = goes_begun (g.L.Ledger.book c.args.ledger.now) (g.L.Ledger.broken c.args.ledger.now) c.args.work.now c.requires.ready c.back.new.self c.back.ensures;
+  learns = learns_none (g.L.Ledger.book c.args.ledger.now);
+  many = omega arith;
+  vars = ap (λ (t : Track). t.vars) c.back.ensures;
+  later = omega arith;
+  origin = inl refl;
+}
+
+pub loop-learned-preserved : goal.loop-learned-preserved
+loop-learned-preserved g c =
+    let round = rw c.in-Decided.is at c.in_ok-next_round.ensures.so in
+    record {
+      within = c.loop-learned.invariant.within;
+      working = c.next_round.ensures.working (inr (c.in_ok-next_round.was ∙ ap Ok c.in-Decided.is));
+      goes = round.goes;
+      learns = subst (λ b. LearnsNew (g.L.Ledger.book c.args.ledger.now) b c.loop-learned.learned) (sym round.book) c.loop-learned.invariant.learns;
+      many = ap length round.clauses ∙ c.loop-learned.invariant.many;
       vars = round.vars ∙ c.loop-learned.invariant.vars;
       later = omega (arith, c.loop-learned.invariant.later, c.next_round.ensures.later);
       origin = origin_more (g.L.Ledger.origin c.args.ledger.now) (g.L.Ledger.origin c.loop-learned.ledger) (g.L.Ledger.origin c.next_round.new.ledger) c.loop-learned.invariant.origin c.next_round.ensures.origin;

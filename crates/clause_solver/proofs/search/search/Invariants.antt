@@ -2,11 +2,13 @@ use Rattle.std.proofs.Common.{◌≡◌, ◌⊎◌, ◌+◌, ◌-◌, ◌*◌, �
 use Rattle.lrat_replay.specs.Marks.{room}
 use Rattle.clause_solver.specs.Trail.{unassigned}
 use Rattle.clause_solver.specs.Search.{Goes, LearnsNew}
+use Rattle.clause_solver.specs.Watching.{IsWorking}
 use Rattle.clause_solver.proofs.search.search.Given as goal
 
 abbrev pub invariant-loop-learned : goal.invariant-loop-learned
 invariant-loop-learned g l = record {
   within : l.learned ≤ l.budget;
+  working : IsWorking l.work;
   goes : Goes (record { book = g.L.Ledger.book l.ledger; broken = g.L.Ledger.broken l.ledger; clauses = l.work.clauses; track = l.work.trail; width = room l.work.seen });
   learns : LearnsNew (g.L.Ledger.book l.fn.ledger) (g.L.Ledger.book l.ledger) l.learned;
   many : length l.work.clauses ≡ length l.fn.work.clauses + l.learned;

@@ -5,11 +5,11 @@ use Rattle.lrat_replay.specs.Status.{IsUnit}
 use Rattle.lrat_replay.proofs.StatusLaws.{forces-is, conflict-is}
 use Rattle.clause_solver.specs.Trail.{Track, known_by, unassigned, IsVariableOf}
 use Rattle.clause_solver.specs.Plain.{IsConflictAt}
-use Rattle.clause_solver.specs.declared.propagate.Pass.{Pass}
-use Rattle.clause_solver.specs.declared.propagate.Pass.TheVariants.{Conflict}
+use Rattle.clause_solver.specs.declared.plain.Pass.{Pass}
+use Rattle.clause_solver.specs.declared.plain.Pass.TheVariants.{Conflict}
 use Rattle.clause_solver.proofs.Propagation.{get_inside, unit_fresh, all_over, over_has, rests_status, IsProgress, progress_forces, progress_rests}
-use Rattle.clause_solver.proofs.propagate.scan_all.Goals as goal
-use Rattle.clause_solver.proofs.propagate.scan_all.Goals.{in-Forces+in_ok-push-in-Forces, in-Satisfied}
+use Rattle.clause_solver.proofs.plain.scan_all.Goals as goal
+use Rattle.clause_solver.proofs.plain.scan_all.Goals.{in-Forces+in_ok-push-in-Forces, in-Satisfied}
 
 same_place : (i place : ℕ) (r s : Result Pass NoMemory) → r ≡ Ok (Conflict i) → s ≡ Ok (Conflict place) → r ≡ s → i ≡ place
 same_place i place r s a b e = cc
