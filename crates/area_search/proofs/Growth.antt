@@ -16,7 +16,7 @@ use Rattle.wire_io.specs.Told.{Gains, GainsFront}
 use Rattle.journal_text.specs.Good.{Lists, IsRefutedWhole}
 use Rattle.journal_text.specs.Least.{area, IsRight, IsNoLarger}
 use Rattle.journal_text.specs.Parts.{Section, Part, Question, Answered, size_of, array_of}
-use Rattle.journal_text.specs.Proved.{IsRefuted, HasWhole}
+use Rattle.journal_text.specs.Proved.{IsRefuted, ShowsClose, HasWhole}
 use Rattle.journal_text.specs.Text.{section_text, parts_text}
 use Rattle.journal_text.specs.declared.target.Close.{Close}
 use Rattle.journal_text.specs.declared.target.Close.TheVariants as close
@@ -30,7 +30,7 @@ use Rattle.area_search.specs.declared.fault.SearchFault.{SearchFault}
 use Rattle.area_search.specs.declared.fault.SearchFault.TheVariants.{Sink, NoMemory}
 use Rattle.area_search.specs.declared.progress.Progress.{Progress}
 use Rattle.lattice_question.specs.declared.question.Outcome.TheVariants as outcome
-use Rattle.lattice_question.proofs.Sections.{stopped_held as held_asking}
+use Rattle.lattice_question.proofs.Sections.{shows_close, stopped_held as held_asking}
 use Rattle.lattice_question.proofs.Fronts.{gains_then, gains_nothing, front_then, front_of_all, told_later, parts_push, parts_joined}
 
 -- ---- what a longer list holds
@@ -171,6 +171,13 @@ module _ (rails output : ℕ) (f : Function) (budget : ℕ) (s : Size) (old new 
     | inr same ↦ absurd (n (sym e ∙ ap (λ (x : Section). x.close) (question_same section t same) ∙ closed))
   ]
 
+  -- each section still shows what it closes with
+  replayed_still : ShowsClose rails f section section.close → (t : Section) → Contains (more ++ Question section ∷ []) (Question t) → ShowsClose rails f t t.close
+  replayed_still here t found = elim (Contains-push_cases more (Question section) (Question t) found) [
+    | inl before ↦ h.replayed t before
+    | inr same ↦ subst (λ (x : Section). ShowsClose rails f x x.close) (question_same section t same) here
+  ]
+
   refuted≢satisfied : close.Refuted ≡ close.Satisfied → ⊥
   refuted≢satisfied e = cc e
 
@@ -183,19 +190,21 @@ module _ (rails output : ℕ) (f : Function) (budget : ℕ) (s : Size) (old new 
         (lists_push (IsRefutedWhole rails output f) section (record { shape = s; steps = steps }) (of, ap array_of target, so.0) (λ i. record { shape = sym (ap size_of target) i; steps = sym so.1 i }) more old.proofs.items h.listed);
     satisfied = satisfied_still close.Refuted so.0.close refuted≢satisfied (subst (λ (g : Lattice). area g ≤ area old.best) (sym best) (omega arith));
     left_open = open_still given;
+    replayed = replayed_still (shows_close rails f budget (outcome.Refuted steps) section so);
   }
 
   pub shows_better : (g : Lattice) → new.best ≡ g → IsRight rails f g → g.size ≡ s → area g < area old.best → new.refuted ≡ old.refuted → new.proofs.items ≡ old.proofs.items → new.given_up ≡ old.given_up
-      → section.close ≡ close.Satisfied → AreShowing rails output f budget new (more ++ Question section ∷ [])
-  shows_better g best right size smaller refuted proofs given closed = record {
+      → SectionSo rails f budget (outcome.Satisfied g) section → AreShowing rails output f budget new (more ++ Question section ∷ [])
+  shows_better g best right size smaller refuted proofs given so = record {
     held = subst (All (λ t. HasWhole (more ++ Question section ∷ []) output t (IsRefuted rails f))) (sym refuted) held_still;
     listed = subst (Lists (IsRefutedWhole rails output f) (more ++ Question section ∷ [])) (sym proofs)
-        (lists_skip (IsRefutedWhole rails output f) section (not_refuted rails output f section close.Satisfied closed (λ e. cc e)) more old.proofs.items h.listed);
+        (lists_skip (IsRefutedWhole rails output f) section (not_refuted rails output f section close.Satisfied so.0 (λ e. cc e)) more old.proofs.items h.listed);
     satisfied = λ t found closes. elim (Contains-push_cases more (Question section) (Question t) found) [
       | inl before ↦ (let k = h.satisfied t before closes in (k.0, (let least : area new.best < area old.best = subst (λ (x : Lattice). area x < area old.best) (sym best) smaller in omega (arith, k.1, least))))
       | inr same ↦ here t (question_same section t same)
     ];
     left_open = open_still given;
+    replayed = replayed_still (shows_close rails f budget (outcome.Satisfied g) section so);
   } where
     realised : IsRealisedIn f.inputs rails f s None
     realised = record { lattice = g; kept = right.lattice; size_is = size; over = right.over; realises = record { same_size = tt; on = right.realises.on; off = right.realises.off } }
@@ -215,6 +224,7 @@ module _ (rails output : ℕ) (f : Function) (budget : ℕ) (s : Size) (old new 
         (lists_skip (IsRefutedWhole rails output f) section (not_refuted rails output f section (close.Spent budget) so.0.close (λ e. cc e)) more old.proofs.items h.listed);
     satisfied = satisfied_still (close.Spent budget) so.0.close (λ e. cc e) (subst (λ (g : Lattice). area g ≤ area old.best) (sym best) (omega arith));
     left_open = subst (λ (o : Option Size). IfSome o (λ t. HasWhole (more ++ Question section ∷ []) output t (IsSpentOpen rails f budget))) (sym given) (has_last more output s section (IsSpentOpen rails f budget) of target so);
+    replayed = replayed_still (shows_close rails f budget outcome.Spent section so);
   }
 
 -- at the start nothing is written
@@ -231,6 +241,7 @@ written_begin rails output f budget p a refuted proofs given = record {
     listed = proofs;
     satisfied = λ s found closes. absurd (let within = found.1 in omega arith);
     left_open = subst (λ (o : Option Size). IfSome o (λ t. HasWhole [] output t (IsSpentOpen rails f budget))) (sym given) tt;
+    replayed = λ s found. absurd (let within = found.1 in omega arith);
   }
 
   told : (o : Option (List ℕ)) → IfSome o (λ _. AreShowing rails output f budget p [])

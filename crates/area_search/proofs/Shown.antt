@@ -13,7 +13,7 @@ use Rattle.report_text.specs.declared.answer.Answer.TheVariants.{NoRails}
 use Rattle.journal_text.specs.Good.{LacksRails, Lists, IsCovered, IsBound, IsRefutedWhole, AreSatisfied}
 use Rattle.journal_text.specs.Least.{area, NoneBelow}
 use Rattle.journal_text.specs.Parts.{Section, Part, Question, Answered}
-use Rattle.journal_text.specs.Proved.{IsRefuted, HasWhole}
+use Rattle.journal_text.specs.Proved.{IsRefuted, AreReplayed, HasWhole}
 use Rattle.area_search.specs.Answer.{IsLeast, HoldsOfLattices}
 use Rattle.lattice_question.specs.Asked.{IsExcluded}
 use Rattle.area_search.specs.Progress.{IsKnown, IsSpentOpen, AreShowing, HasWritten, EndedSo, answer_of}
@@ -67,6 +67,9 @@ module _ (rails : ℕ) (f : Function) (p : Progress) (larger : IsRealisedLarger)
     are_satisfied : AreSatisfied rails output f (parts ++ more)
     are_satisfied s found of closes = (shows.satisfied s (from_more s of found) closes).0
 
+    are_replayed : AreReplayed rails output f (parts ++ more)
+    are_replayed s found of = shows.replayed s (from_more s of found)
+
     listed : Lists (IsRefutedWhole rails output f) (parts ++ more) p.proofs.items
     listed = behind_parts parts none where
       behind_parts : (parts : List Part) → HasNoSection parts output → Lists (IsRefutedWhole rails output f) (parts ++ more) p.proofs.items
@@ -76,7 +79,7 @@ module _ (rails : ℕ) (f : Function) (p : Progress) (larger : IsRealisedLarger)
           inr ((λ counts. none s (0, omega arith, refl) counts.0), behind_parts parts (λ t found of. none t (Contains-append_right (Question s ∷ []) parts (Question t) found) of))
 
     shown_at_end : (given_up : Option Size) → EndedSo given_up p → IsShown rails output f budget (parts ++ more) (answer_of p.best p.least given_up budget) p.proofs.items
-    shown_at_end None ended = record { good = bound_at (area p.best) ended; licensed = (tt, are_satisfied); listed = listed }
+    shown_at_end None ended = record { good = bound_at (area p.best) ended; licensed = (tt, are_satisfied); listed = listed; replayed = are_replayed }
     shown_at_end (Some s) ended =
         let spent : HasWhole more output s (IsSpentOpen rails f budget) = subst (λ (o : Option Size). IfSome o (λ t. HasWhole more output t (IsSpentOpen rails f budget))) ended.0 shows.left_open in
         let whole = behind s (IsSpentOpen rails f budget) spent in
@@ -96,6 +99,7 @@ module _ (rails : ℕ) (f : Function) (p : Progress) (larger : IsRealisedLarger)
             are_satisfied,
           );
           listed = listed;
+          replayed = are_replayed;
         }
 
   pub searched_at_end : (output budget : ℕ) (first got : Option (List ℕ)) (given_up : Option Size) → EndedSo given_up p → HasWritten rails output f budget first got p → Searched rails output f budget first got (answer_of p.best p.least given_up budget) p.proofs.items
@@ -129,6 +133,10 @@ searched_lacking rails output f budget a x y proofs lacks none_listed = record {
       ]),
     );
     listed = none_listed;
+    replayed = λ s found of. absurd (elim (Contains-append_cases parts [] (Question s) found) [
+      | inl before ↦ none s before of
+      | inr here ↦ (let within = here.1 in omega arith)
+    ]);
   }
 
   show : (o : Option (List ℕ)) → IfSome o (λ _. (parts : List Part) → HasNoSection parts output → IsShown rails output f budget (parts ++ []) (NoRails x y) proofs)

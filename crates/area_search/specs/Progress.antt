@@ -15,7 +15,7 @@ use Rattle.wire_io.specs.Told.{Gains}
 use Rattle.journal_text.specs.Good.{Lists, IsRefutedWhole}
 use Rattle.journal_text.specs.Least.{area, IsRight, IsNoLarger}
 use Rattle.journal_text.specs.Parts.{Section, Part, Question, size_of, array_of}
-use Rattle.journal_text.specs.Proved.{IsRefuted, IsSpent, IsLeftOpen, HasWhole}
+use Rattle.journal_text.specs.Proved.{IsRefuted, IsSpent, IsLeftOpen, ShowsClose, HasWhole}
 use Rattle.journal_text.specs.Text.{parts_text}
 use Rattle.journal_text.specs.declared.target.Close.TheVariants.{Satisfied}
 use Rattle.lattice_question.specs.Asked.{IsExcluded}
@@ -40,13 +40,14 @@ pub record IsKnown (rails : ℕ) (f : Function) (p : Progress) : Type 0 where
 abbrev pub IsSpentOpen : ℕ → Function → ℕ → Section → Type 0
 IsSpentOpen rails f budget section = IsSpent rails f budget section × IsLeftOpen rails f section
 
--- What the sections so far show of it: each refuted size has its section, the list names them in order, satisfied sections are no smaller than the best lattice.
+-- What the sections so far show of it: each refuted size has its section, the list names them in order, satisfied sections are no smaller than the best lattice; and each shows what it closes with.
 pub record AreShowing (rails output : ℕ) (f : Function) (budget : ℕ) (p : Progress) (more : List Part) : Type 0 where
   pub held : All (λ s. HasWhole more output s (IsRefuted rails f)) p.refuted
   pub listed : Lists (IsRefutedWhole rails output f) more p.proofs.items
   pub satisfied : (s : Section) → Contains more (Question s) → s.close ≡ Satisfied
       → IsRealisedIn f.inputs rails f (size_of s.target) (array_of s.target) × (area p.best ≤ (size_of s.target).rows * (size_of s.target).cols)
   pub left_open : IfSome p.given_up (λ s. HasWhole more output s (IsSpentOpen rails f budget))
+  pub replayed : (s : Section) → Contains more (Question s) → ShowsClose rails f s s.close
 
 -- What was written so far.
 pub record HasWritten (rails output : ℕ) (f : Function) (budget : ℕ) (got got' : Option (List ℕ)) (p : Progress) : Type 0 where

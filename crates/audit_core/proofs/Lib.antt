@@ -9,3 +9,6 @@ mod NameLaws
 mod AnswerLaws
 mod SeenLaws
 mod GoodLaws
+mod RenewLaws
+mod RenewedLaws
+mod WrittenLaws

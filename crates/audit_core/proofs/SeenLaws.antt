@@ -25,20 +25,25 @@ use Rattle.audit_core.proofs.SoughtLaws.{keeps_none, keeps_same, keeps_more}
 
 -- ---- right parts
 
-pub right_more : (basis : Basis) (before : List Part) (p : Part) → AreRight basis before → IsRightPart basis before p → AreRight basis (before ++ p ∷ [])
-right_more basis before p right now front part later whole = elim (cases_order (length before) (length front)) [
+-- one more part of which this holds behind those before it
+pub each_more : (P : List Part → Part → Type 0) (before : List Part) (p : Part) → ((front : List Part) (part : Part) (later : List Part) → before ≡ front ++ part ∷ later → P front part) → P before p
+    → (front : List Part) (part : Part) (later : List Part) → before ++ p ∷ [] ≡ front ++ part ∷ later → P front part
+each_more P before p each now front part later whole = elim (cases_order (length before) (length front)) [
   | inl same ↦
       let both = same_front (before ++ p ∷ []) before [] front later p part refl whole same in
-      subst (λ (x : Part). IsRightPart basis front x) both.1 (subst (λ (l : List Part). IsRightPart basis l p) both.0 now)
+      subst (λ (x : Part). P front x) both.1 (subst (λ (l : List Part). P l p) both.0 now)
   | inr other ↦ elim other [
     | inl less ↦
         let n = ap length whole in
         absurd (omega (arith, n, less, length-append before (p ∷ []), length-append front (part ∷ later)))
     | inr more ↦
         let in_front = shorter (before ++ p ∷ []) before [] front later p part refl whole more in
-        right front part in_front.rest in_front.whole
+        each front part in_front.rest in_front.whole
   ]
 ]
+
+pub right_more : (basis : Basis) (before : List Part) (p : Part) → AreRight basis before → IsRightPart basis before p → AreRight basis (before ++ p ∷ [])
+right_more basis before p right now = each_more (IsRightPart basis) before p right now
 
 -- ---- the least output of the next answer
 

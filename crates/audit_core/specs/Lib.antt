@@ -1,6 +1,8 @@
 pub mod Audit
 pub mod Confirmed
 pub mod Laws
+pub mod Renewed
+pub mod Listing
 pub mod Replayed
 pub mod Seen
 pub mod Sought

@@ -8,6 +8,7 @@ pub mod laws;
 mod lists;
 mod part;
 pub mod refusal;
+pub mod renew;
 mod same;
 mod section;
 #[cfg(test)]

@@ -59,7 +59,7 @@ pub(crate) fn whole_section(part: &Part, output: u32, close: Close) -> Option<&S
 }
 
 /// The section of an output and of an array that closes so and that a part is.
-fn marked_section<'a>(
+pub(crate) fn marked_section<'a>(
     part: &'a Part,
     output: u32,
     array: &Array,

@@ -1,4 +1,4 @@
 mod Placed
 mod RowLaws
 mod TakeLaws
-mod ReadLaws
+pub mod ReadLaws

@@ -19,7 +19,7 @@ use Rattle.wire_io.specs.Told.{Gains}
 use Rattle.journal_text.specs.Good.{Lists, ListsFirst, IsRefutedOn, AreSatisfied}
 use Rattle.journal_text.specs.Least.{IsRightOn}
 use Rattle.journal_text.specs.Parts.{Section, Part, Question, Answered, size_of, array_of}
-use Rattle.journal_text.specs.Proved.{IsRefuted, IsSpent, IsLeftOpen, HasMarked}
+use Rattle.journal_text.specs.Proved.{IsRefuted, IsSpent, IsLeftOpen, ShowsClose, AreReplayed, HasMarked}
 use Rattle.journal_text.specs.Text.{section_text, parts_text}
 use Rattle.journal_text.specs.declared.target.Close.{Close}
 use Rattle.journal_text.specs.declared.target.Close.TheVariants as close
@@ -28,6 +28,7 @@ use Rattle.journal_text.specs.declared.target.Target.TheVariants.{Marked}
 use Rattle.lattice_question.specs.Asked.{OutcomeSo, SectionSo, AddsSection}
 use Rattle.lattice_question.specs.Written.{IsSectionOf, HasNoSection, IsShown, Searched, StoppedAsking}
 use Rattle.lattice_question.proofs.Fronts.{front_of_all}
+use Rattle.lattice_question.proofs.Sections.{shows_close}
 use Rattle.lattice_question.specs.declared.question.Outcome.{Outcome}
 use Rattle.lattice_question.specs.declared.question.Outcome.TheVariants as outcome
 use Rattle.defect_array.specs.Answering.{answer_for, proofs_for}
@@ -106,17 +107,26 @@ module _ (rails output : ℕ) (f : Function) (budget : ℕ) (a : Defects) (secti
     behind (Question s ∷ parts) none =
         inr ((λ counts. none s (0, omega arith, refl) counts.0), behind parts (λ t found is. none t (Contains-append_right (Question s ∷ []) parts (Question t) found) is))
 
+-- the sections of the output among these parts are one, which shows what it closes with
+replayed_behind : (output : ℕ) (f : Function) (budget : ℕ) (o : Outcome) (section : Section) → SectionSo 1048575 f budget o section → (parts : List Part) → HasNoSection parts output → AreReplayed 1048575 output f (parts ++ Question section ∷ [])
+replayed_behind output f budget o section holds parts none t found of = elim (Contains-push_cases parts (Question section) (Question t) found) [
+  | inl before ↦ absurd (none t before of)
+  | inr same ↦ subst (λ (x : Section). ShowsClose 1048575 f x x.close) (question_same section t same) (shows_close 1048575 f budget o section holds)
+]
+
 pub shown_so : (output : ℕ) (f : Function) (budget : ℕ) (a : Defects) (o : Outcome) → OutcomeSo 1048575 f (Marked a) o → (section : Section) → section.output ≡ output → section.target ≡ Marked a → SectionSo 1048575 f budget o section
     → (parts : List Part) → HasNoSection parts output → IsShown 1048575 output f budget (parts ++ Question section ∷ []) (answer_for o a budget) (proofs_for o a)
 shown_so output f budget a (outcome.Refuted steps) so section of target holds parts none = record {
   good = record { none = so.0; refuted = marked 1048575 output f budget a section of target parts none (IsRefuted 1048575 f) holds.0 };
   licensed = (tt, not_satisfied 1048575 output f budget a section of target parts none close.Refuted holds.0.close (λ e. cc e));
   listed = listed_first 1048575 output f budget a section of target parts none steps holds.0 holds.1;
+  replayed = replayed_behind output f budget (outcome.Refuted steps) section holds parts none;
 }
 shown_so output f budget a (outcome.Satisfied g) so section of target holds parts none = record {
   good = so;
   licensed = (tt, satisfied_on 1048575 output f budget a section of target parts none g so);
   listed = refl;
+  replayed = replayed_behind output f budget (outcome.Satisfied g) section holds parts none;
 }
 shown_so output f budget a outcome.Spent so section of target holds parts none = record {
   good = marked 1048575 output f budget a section of target parts none (IsSpent 1048575 f budget) holds.0;
@@ -125,6 +135,7 @@ shown_so output f budget a outcome.Spent so section of target holds parts none =
     not_satisfied 1048575 output f budget a section of target parts none (close.Spent budget) holds.0.close (λ e. cc e),
   );
   listed = refl;
+  replayed = replayed_behind output f budget outcome.Spent section holds parts none;
 }
 
 pub searched_so : (output : ℕ) (f : Function) (budget : ℕ) (a : Defects) (o : Outcome) (got got' : Option (List ℕ)) → OutcomeSo 1048575 f (Marked a) o → AddsSection output (Marked a) got got' (SectionSo 1048575 f budget o)

@@ -9,3 +9,4 @@ pub mod VerdictLaws
 pub mod GivesLaws
 pub mod ReadLaws
 pub mod PartsLaws
+pub mod WriteLaws

@@ -1,6 +1,7 @@
 -- What the private parts of reading say.
 use Rattle.std.specs.Prelude.{◌≡◌, ◌≢◌, ℕ, ◌+◌, ◌≤◌, List, [], ◌∷◌, ◌++◌, All, length, map, codes}
 use Rattle.std.specs.Fmt.{decimal}
+use Rattle.lrat_replay.specs.LratText.{step_text}
 use Rattle.lrat_replay.specs.StepRead.{IsLineOf}
 use Rattle.report_text.specs.Cells.{size_text, array_text}
 use Rattle.report_text.specs.Pieces.{Cuts, words, feeds}
@@ -117,3 +118,9 @@ pub record AreParts (version : Version) (first : ℕ) (bytes : List ℕ) (parts 
 abbrev pub first_number : Version → ℕ
 first_number versions.One = 2
 first_number versions.Two = 3
+
+-- ---- lines that are written
+
+-- the line of a step, without its number
+abbrev pub line_text : StepLine → List ℕ
+line_text l = step_text l.step.id l.step.clause l.step.hints

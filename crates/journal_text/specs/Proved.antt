@@ -5,12 +5,14 @@ use Rattle.clause_core.specs.Formula.{Formula}
 use Rattle.cube_core.specs.Function.{Function}
 use Rattle.lattice_grid.specs.Defects.{Defects}
 use Rattle.lattice_grid.specs.Rectangle.{Size}
+use Rattle.lrat_replay.specs.Book.{Accepts, start}
 use Rattle.lrat_replay.specs.declared.line.LineKind.TheVariants.{Add}
 use Rattle.lrat_replay.specs.Laws.{Refutes}
 use Rattle.lrat_replay.specs.Learned.{SpentWritten, without_hints}
 use Rattle.lrat_replay.specs.New.{IsOpen}
 use Rattle.reach_encoding.specs.Encoding.{encoding}
-use Rattle.journal_text.specs.declared.target.Close.TheVariants.{Refuted, Spent}
+use Rattle.journal_text.specs.declared.target.Close.{Close}
+use Rattle.journal_text.specs.declared.target.Close.TheVariants.{Refuted, Spent, Satisfied}
 use Rattle.journal_text.specs.Parts.{Section, Part, Question, size_of, array_of}
 
 -- the formula that a section asks, of a function and over rails
@@ -26,6 +28,20 @@ pub record IsRefuted (rails : ℕ) (f : Function) (s : Section) : Type 0 where
 pub record IsSpent (rails : ℕ) (f : Function) (budget : ℕ) (s : Section) : Type 0 where
   pub close : s.close ≡ Spent budget
   pub spent : SpentWritten (formula_of rails f s) s.steps budget
+
+-- Each step of the section is accepted by its own hints.
+abbrev pub IsAccepted : ℕ → Function → Section → Type 0
+IsAccepted rails f s = Accepts (start (formula_of rails f s)) (map Add s.steps)
+
+-- what a section shows that closes so
+abbrev pub ShowsClose : ℕ → Function → Section → Close → Type 0
+ShowsClose rails f s Refuted = IsRefuted rails f s
+ShowsClose rails f s (Spent budget) = IsSpent rails f budget s
+ShowsClose rails f s Satisfied = IsAccepted rails f s
+
+-- Each section of the output among the parts shows what it closes with.
+abbrev pub AreReplayed : ℕ → ℕ → Function → List Part → Type 0
+AreReplayed rails output f parts = (s : Section) → Contains parts (Question s) → s.output ≡ output → ShowsClose rails f s s.close
 
 -- Each step told propagation something, and propagation after them finds no conflict.
 abbrev pub IsLeftOpen : ℕ → Function → Section → Type 0

@@ -16,6 +16,7 @@ pub mod target;
 #[cfg(test)]
 mod tests;
 mod text;
+pub mod write;
 pub mod writer;
 
 /// How what the calls write comes to the text of a journal.

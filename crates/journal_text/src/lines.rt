@@ -62,7 +62,7 @@ fn put_asked<K: Sink>(buffer: &mut Buffer, sink: &mut K, target: &Target) -> Res
 }
 
 /// Puts the first line of a section.
-fn put_question<K: Sink>(
+pub(crate) fn put_question<K: Sink>(
     buffer: &mut Buffer,
     sink: &mut K,
     output: u32,

@@ -12,7 +12,7 @@ use Rattle.lattice_grid.specs.Lattice.{Lattice}
 use Rattle.lattice_grid.specs.Rails.{controls_of}
 use Rattle.lattice_grid.specs.Rectangle.{Size}
 use Rattle.path_meaning.specs.Defective.{IsRealisedIn}
-use Rattle.lrat_replay.specs.Book.{Book, Numbered, start, is_empty, some_empty}
+use Rattle.lrat_replay.specs.Book.{Book, Numbered, Accepts, start, is_empty, some_empty}
 use Rattle.lrat_replay.specs.Laws.{Refutes}
 use Rattle.lrat_replay.specs.Learned.{EndsEmpty, SpentWritten, without_hints}
 use Rattle.lrat_replay.specs.New.{AreNew, IsOpen}
@@ -114,6 +114,9 @@ pub closed_as : (told : Option (List ℕ)) (origin : List ℕ) (c : Close) (P Q 
 closed_as None origin c P Q so h = tt
 closed_as (Some bytes) origin c P Q so h = record { steps = h.steps; text = h.text; written = h.written; holds = so h.steps h.holds; asked = h.asked }
 
+pub closed_satisfied : (told : Option (List ℕ)) (origin : List ℕ) (book : Book) → IfSome told (λ bytes. IsClosed bytes origin close.Satisfied (AreOf book)) → IfSome told (λ bytes. IsClosed bytes origin close.Satisfied (λ steps. Accepts (start book.formula) (map Add steps)))
+closed_satisfied told origin book h = closed_as told origin close.Satisfied (AreOf book) (λ steps. Accepts (start book.formula) (map Add steps)) (λ steps k. k.accepted) h
+
 pub closed_refuted : (told : Option (List ℕ)) (origin : List ℕ) (book : Book) (count : ℕ) → count ≡ length book.steps → IfSome told (λ bytes. IsClosed bytes origin close.Refuted (λ steps. AreOf book steps × Refutes book.formula (map Add steps)))
     → IfSome told (λ bytes. IsClosed bytes origin close.Refuted (λ steps. Refutes book.formula (map Add steps) × (length steps ≡ count)))
 closed_refuted told origin book count e h =
@@ -147,8 +150,9 @@ module _ (rails : ℕ) (f : Function) (budget : ℕ) (t : Target) (formula : For
     turned None h = tt
     turned (Some bytes) h = record { steps = h.steps; close = c; written = h.written; may_close = closes; told = h.asked; text = h.text; holds = λ output. so h.steps output h.holds }
 
-  pub satisfied_so : (g : Lattice) → IfSome told (λ bytes. IsClosed bytes origin close.Satisfied (λ _. Unit {0})) → IfSome told (λ bytes. ClosedSo rails f budget t (outcome.Satisfied g) origin bytes)
-  satisfied_so g h = closed_so (outcome.Satisfied g) close.Satisfied (λ _. Unit {0}) tt (λ steps output k. refl) h
+  pub satisfied_so : (g : Lattice) → IfSome told (λ bytes. IsClosed bytes origin close.Satisfied (λ steps. Accepts (start formula) (map Add steps))) → IfSome told (λ bytes. ClosedSo rails f budget t (outcome.Satisfied g) origin bytes)
+  satisfied_so g h =
+      closed_so (outcome.Satisfied g) close.Satisfied (λ steps. Accepts (start formula) (map Add steps)) tt (λ steps output k. (refl, subst (λ (x : Formula). Accepts (start x) (map Add steps)) same k)) h
 
   pub refuted_so : (count : ℕ) → IfSome told (λ bytes. IsClosed bytes origin close.Refuted (λ steps. Refutes formula (map Add steps) × (length steps ≡ count))) → IfSome told (λ bytes. ClosedSo rails f budget t (outcome.Refuted count) origin bytes)
   refuted_so count h =

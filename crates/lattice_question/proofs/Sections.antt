@@ -13,6 +13,7 @@ use Rattle.journal_text.specs.Calls.{WasCut, WasRefused, IsSectionBegun}
 use Rattle.journal_text.specs.Kept.{Learning}
 use Rattle.journal_text.specs.Origin.{origin_of}
 use Rattle.journal_text.specs.Parts.{Section, Question}
+use Rattle.journal_text.specs.Proved.{ShowsClose}
 use Rattle.journal_text.specs.Text.{question_text, steps_text, close_text, section_text}
 use Rattle.journal_text.specs.declared.target.Close.{Close}
 use Rattle.journal_text.specs.declared.target.Close.TheVariants.{Satisfied}
@@ -23,6 +24,7 @@ use Rattle.lattice_question.specs.Written.{IsSectionOf, StoppedAsking, StoppedQu
 use Rattle.journal_text.specs.declared.fault.JournalFault.{JournalFault}
 use Rattle.journal_text.specs.declared.fault.JournalFault.TheVariants.{Sink, NoMemory}
 use Rattle.lattice_question.specs.declared.question.Outcome.{Outcome}
+use Rattle.lattice_question.specs.declared.question.Outcome.TheVariants as outcome
 use Rattle.lattice_question.proofs.Fronts.{gains_nothing, front_longer}
 
 section_is : (s : Section) → section_text s ≡ question_text s.output s.target ++ (steps_text s.steps ++ close_text s.close)
@@ -271,3 +273,9 @@ module _ {K : Type 0} (got : K → Option (List ℕ)) (faults : K → ℕ) where
   stopped_cut s r held fault close closes whole begun e cut =
       subst (λ h. StoppedSection (got s.sink) (got h) (faults s.sink) (faults h) fault) (sym e)
       (stopped_closing close (got s.sink) (got r) (faults s.sink) (faults r) fault closes (subst (λ b. IfSome (got s.sink) (λ bytes. IsSectionBegun bytes (origin_of (got s.sink)) b)) whole begun) cut)
+
+-- a section shows what it closes with
+pub shows_close : (rails : ℕ) (f : Function) (budget : ℕ) (o : Outcome) (s : Section) → SectionSo rails f budget o s → ShowsClose rails f s s.close
+shows_close rails f budget (outcome.Refuted steps) s h = subst (ShowsClose rails f s) (sym h.0.close) h.0
+shows_close rails f budget (outcome.Satisfied g) s h = subst (ShowsClose rails f s) (sym h.0) h.1
+shows_close rails f budget outcome.Spent s h = subst (ShowsClose rails f s) (sym h.0.close) h.0

@@ -10,7 +10,7 @@ use Rattle.wire_io.specs.Told.{Gains}
 use Rattle.journal_text.specs.Bounds.{IsAsked}
 use Rattle.journal_text.specs.Least.{IsRight, IsRightOn}
 use Rattle.journal_text.specs.Parts.{Section, size_of, array_of}
-use Rattle.journal_text.specs.Proved.{IsRefuted, IsSpent, IsLeftOpen}
+use Rattle.journal_text.specs.Proved.{IsRefuted, IsSpent, IsAccepted, IsLeftOpen}
 use Rattle.journal_text.specs.Text.{section_text}
 use Rattle.journal_text.specs.declared.target.Close.TheVariants.{Satisfied as SatisfiedClose}
 use Rattle.journal_text.specs.declared.target.Target.{Target}
@@ -46,7 +46,7 @@ OutcomeSo rails f target Spent = Unit {0}
 -- what the section of a question shows, by its outcome
 abbrev pub SectionSo : ℕ → Function → ℕ → Outcome → Section → Type 0
 SectionSo rails f budget (Refuted steps) section = IsRefuted rails f section × (length section.steps ≡ steps)
-SectionSo rails f budget (Satisfied g) section = section.close ≡ SatisfiedClose
+SectionSo rails f budget (Satisfied g) section = (section.close ≡ SatisfiedClose) × IsAccepted rails f section
 SectionSo rails f budget Spent section = IsSpent rails f budget section × IsLeftOpen rails f section
 
 -- A section of the output and of the target was written; where the sink tells, this holds of it.

@@ -11,6 +11,7 @@ use Rattle.report_text.specs.declared.answer.Version.TheVariants.{Two}
 use Rattle.journal_text.specs.Bounds.{IsAsked}
 use Rattle.journal_text.specs.Good.{Good, Licensed, Listed}
 use Rattle.journal_text.specs.Parts.{Section, Part, Question, Answered}
+use Rattle.journal_text.specs.Proved.{AreReplayed}
 use Rattle.journal_text.specs.Text.{parts_text}
 use Rattle.journal_text.specs.declared.fault.JournalFault.{JournalFault}
 use Rattle.journal_text.specs.declared.fault.JournalFault.TheVariants.{Sink}
@@ -24,11 +25,12 @@ IsSectionOf output (Answered block) = ⊥
 abbrev pub HasNoSection : List Part → ℕ → Type 0
 HasNoSection parts output = (s : Section) → Contains parts (Question s) → s.output ≡ output → ⊥
 
--- Behind these parts the answer is good, licensed with the budget, and listed.
+-- Behind these parts the answer is good, licensed with the budget, and listed; and each section of the output among them shows what it closes with.
 pub record IsShown (rails output : ℕ) (f : Function) (budget : ℕ) (parts : List Part) (answer : Answer) (proofs : List Proof) : Type 0 where
   pub good : Good rails output f parts answer
   pub licensed : Licensed rails output f parts budget answer
   pub listed : Listed rails output f parts answer proofs
+  pub replayed : AreReplayed rails output f parts
 
 -- What a search for an answer wrote: sections of the output alone. Where the sink tells, they show the answer, behind any parts that have no section of the output.
 pub record Searched (rails output : ℕ) (f : Function) (budget : ℕ) (got got' : Option (List ℕ)) (answer : Answer) (proofs : List Proof) : Type 0 where

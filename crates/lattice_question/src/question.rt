@@ -4,7 +4,7 @@ ghost use Rattle.std.specs.FinSet as set;
 ghost use Rattle.wire_io.specs.Told.{Gains};
 ghost use Rattle.clause_core.specs.Formula.{IsSatisfiedBy};
 ghost use Rattle.clause_solver.specs.Search.{LearnsNew};
-ghost use Rattle.lrat_replay.specs.Book.{start, last_id};
+ghost use Rattle.lrat_replay.specs.Book.{Accepts, start, last_id};
 ghost use Rattle.lrat_replay.specs.Laws.{Refutes};
 ghost use Rattle.lrat_replay.specs.Learned.{EndsEmpty, SpentWritten, without_hints};
 ghost use Rattle.lrat_replay.specs.New.{IsOpen};
@@ -189,7 +189,7 @@ fn close_satisfied<K: Sink>(
     requires satisfies { IsSatisfiedBy valuation.now section.book.formula }
     ensures whole { IfOk result (λ pair. pair.1.failed ≡ false) }
     ensures right { IfOk result (λ pair. IsRightFor rails spec.now target.now pair.0) }
-    ensures closed { IfOk result (λ pair. IfSome (K.got pair.1.sink) (λ bytes. IsClosed bytes (origin_of (K.got section.sink)) Satisfied (λ _. Unit {0}))) }
+    ensures closed { IfOk result (λ pair. IfSome (K.got pair.1.sink) (λ bytes. IsClosed bytes (origin_of (K.got section.sink)) Satisfied (λ steps. Accepts (start section.book.formula) (map Add steps)))) }
     ensures later { IfOk result (λ pair. K.faults section.sink ≤ K.faults pair.1.sink) }
     ensures stopped { IfErr result (λ stopped. StoppedSection (K.got section.sink) (K.got stopped.held) (K.faults section.sink) (K.faults stopped.held) stopped.fault) }
 {

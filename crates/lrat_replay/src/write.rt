@@ -58,8 +58,8 @@ fn put_end<K: Sink>(batch: &mut Batch, sink: &mut K, hints: &[i32]) -> Result<()
     batch.put(sink, b"0\n")
 }
 
-/// Adds the line of a step.
-fn put_step<K: Sink>(
+/// Adds the line of a step behind what the batch holds.
+pub fn put_step<K: Sink>(
     batch: &mut Batch,
     sink: &mut K,
     id: u32,

@@ -374,7 +374,7 @@ fn put_body<K: Sink>(
 }
 
 /// Puts the lines of a block.
-fn put_block<K: Sink>(
+pub fn put_block<K: Sink>(
     buffer: &mut Buffer,
     sink: &mut K,
     block: &Block,
