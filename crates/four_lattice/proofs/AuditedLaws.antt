@@ -6,7 +6,6 @@ use Rattle.audit_core.specs.Audit.{IsFirstFault, IsMisclosed, Basis, basis_of, A
 use Rattle.audit_core.specs.declared.refusal.AuditRefusal.{AuditRefusal}
 use Rattle.audit_core.specs.declared.refusal.AuditRefusal.TheVariants as refusals
 use Rattle.audit_core.proofs.RefusalLaws.{not_right, one_refusal}
-use Rattle.cube_core.specs.Function.{Function}
 use Rattle.journal_text.specs.Parts.{Part, Section, Question, Answered, JournalParts, section_of, kind_of, part_of, parts_of_journal}
 use Rattle.journal_text.specs.Proved.{formula_of}
 use Rattle.journal_text.specs.Text.{head_text, part_text}
@@ -19,14 +18,12 @@ use Rattle.journal_text.specs.declared.journal.PartKind.{PartKind}
 use Rattle.journal_text.specs.declared.journal.PartKind.TheVariants as kinds
 use Rattle.journal_text.specs.declared.journal.SectionText.{SectionText}
 use Rattle.journal_text.specs.declared.journal.StepLine.{StepLine}
-use Rattle.lrat_replay.specs.declared.line.Step.{Step}
 use Rattle.pla_reader.specs.Parts.{Parts}
 use Rattle.pla_reader.specs.Reading.{Reads}
 use Rattle.pla_reader.specs.Sets.{functions_to, function_of_sets, sets_of}
 use Rattle.pla_reader.specs.declared.kind.Kind.{Kind}
 use Rattle.report_text.specs.Pieces.{feeds}
 use Rattle.report_text.specs.Report.{BlockParts, parts_of_block}
-use Rattle.report_text.specs.declared.answer.Block.{Block}
 use Rattle.report_text.specs.declared.answer.Version.{Version}
 use Rattle.four_lattice.specs.Audited.{IsUnaudited}
 use Rattle.four_lattice.specs.Devices.{EndsTest}

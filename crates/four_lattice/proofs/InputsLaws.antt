@@ -6,6 +6,9 @@ use Rattle.std.proofs.lemmas.Bool.{lt-ltb}
 use Rattle.clause_core.specs.CnfRead.{cnf_of}
 use Rattle.clause_core.specs.declared.refusal.CnfRefusal.{CnfRefusal}
 use Rattle.clause_core.specs.declared.refusal.CnfRefusal.TheVariants as cnf
+use Rattle.defect_array.specs.Reading.{Refused as IsNoArray}
+use Rattle.defect_array.specs.declared.read.ArrayRefusal.{ArrayRefusal}
+use Rattle.defect_array.specs.declared.read.ArrayRefusal.TheVariants as array
 use Rattle.journal_text.specs.declared.refusal.JournalRefusal.{JournalRefusal}
 use Rattle.journal_text.specs.declared.refusal.JournalRefusal.TheVariants as journal
 use Rattle.lrat_replay.specs.declared.refusal.LratRefusal.{LratRefusal}
@@ -18,7 +21,9 @@ use Rattle.wire_io.specs.Causes.{IsReadRefusal}
 use Rattle.wire_io.specs.Told.{Loses, LosesCount, LosesUpTo, IsSpent}
 use Rattle.wire_io.specs.declared.fault.ReadFault.{ReadFault}
 use Rattle.wire_io.specs.declared.fault.ReadFault.TheVariants as read
-use Rattle.four_lattice.specs.Devices.{Change, EndsText, unread}
+use Rattle.four_lattice.specs.Devices.{Change, EndsText, EndsTest, unread}
+use Rattle.four_lattice.specs.Inputs.{RefusesArray}
+use Rattle.four_lattice.specs.Judge.{as_array}
 use Rattle.four_lattice.specs.declared.ending.Refusal.{Refusal}
 use Rattle.four_lattice.specs.declared.ending.Ending.{Ending}
 use Rattle.four_lattice.specs.declared.ending.Ending.TheVariants.{Refused, NoMemory}
@@ -132,3 +137,15 @@ journal_memory (journal.Block line) = inr (λ e. cc)
 journal_memory (journal.Proofs line) = inr (λ e. cc)
 journal_memory (journal.Trailing line) = inr (λ e. cc)
 journal_memory (journal.Truncated line) = inr (λ e. cc)
+
+array_memory : (refusal : ArrayRefusal) → (refusal ≡ array.NoMemory) ⊎ (refusal ≢ array.NoMemory)
+array_memory array.NoMemory = inl refl
+array_memory array.Empty = inr (λ e. cc)
+array_memory (array.Ragged line) = inr (λ e. cc)
+array_memory (array.Byte line) = inr (λ e. cc)
+array_memory (array.TooLarge line) = inr (λ e. cc)
+
+-- the bytes behind a PLA are refused, or memory was wanting for their array
+pub no_array : (bytes : List ℕ) (r : ArrayRefusal) (e : Ending) → (r ≢ array.NoMemory → e ≡ Refused (as_array r)) → (r ≡ array.NoMemory → e ≡ NoMemory) → (r ≢ array.NoMemory → IsNoArray bytes r)
+    → EndsTest (RefusesArray bytes) e
+no_array bytes r e as_refusal as_memory refused = elim (array_memory r) [ inl m ↦ inr (as_memory m) | inr o ↦ inl (as_array r, (r, refused o, refl), as_refusal o) ]

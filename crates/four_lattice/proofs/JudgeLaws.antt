@@ -1,7 +1,10 @@
 -- Told texts come to one judgement. Of two readings the one is of texts that are told, the other of texts where they are told.
 use Rattle.std.proofs.Common.{◌≡◌, ℕ, ◌<◌, ◌≤◌, inl, inr, List, length, sym, ap, ◌∙◌, subst, arith, true, Some, Ok, Err, refl}
-use Rattle.std.specs.Prelude.{IfSome, IsSomeAnd, slice_get, None}
+use Rattle.std.specs.Prelude.{IfSome, IsSomeAnd, slice_get, drop, None}
 use Rattle.cube_core.specs.Function.{Function}
+use Rattle.defect_array.specs.Reading.{Reads as ReadsArray}
+use Rattle.defect_array.proofs.ReadLaws.{one_reading, one_refusal as one_array_refusal, never_both}
+use Rattle.lattice_grid.specs.Defects.{Defects}
 use Rattle.lattice_grid.specs.Rectangle.{Size}
 use Rattle.std.specs.declared.option.Option.{Option}
 use Rattle.std.proofs.lemmas.Bool.{true≢false}
@@ -25,8 +28,9 @@ use Rattle.report_text.specs.Reading.{Gives, IsRefused}
 use Rattle.report_text.specs.Report.{ReportParts}
 use Rattle.report_text.proofs.AnswerLaws.{one_answer}
 use Rattle.four_lattice.specs.Check.{IsAccepted, adds_empty, end_line}
-use Rattle.four_lattice.specs.Judge.{Texts, Task, Judgement, Refused, Accepted, Lattices, Encoding, Realised, Refuted, Confirmed, Minima, Stage, Last, TextRefuses, as_pla, as_cnf, IsCnfRefused, IsLratRefused, IsReportRefused, IsJournalRefused, JournalRefuses, JournalGives, Unconfirms, AuditComes, LratRefuses, LratGives, ReportRefuses, ReportGives, LacksOutput, LacksFunction, Denies, LinesStop, LinesRefuse, LatticesCome, EncodingComes, VerifyComes, CheckComes, SynthComes, JobComes, Comes}
-use Rattle.four_lattice.specs.Laws.{IsOneJudgement}
+use Rattle.four_lattice.specs.Judge.{Texts, Task, Judgement, Refused, Accepted, Lattices, Encoding, Realised, Refuted, Confirmed, Minima, Placed, Stage, Test, Last, TextRefuses, as_pla, as_cnf, as_array, IsArrayRefused, ArrayRefuses, ArrayGives, IsCnfRefused, IsLratRefused, IsReportRefused, IsJournalRefused, JournalRefuses, JournalGives, Unconfirms, AuditComes, LratRefuses, LratGives, ReportRefuses, ReportGives, LacksOutput, LacksFunction, Denies, LinesStop, LinesRefuse, LatticesCome, EncodingComes, VerifyComes, CheckComes, SynthComes, MapComes, JobComes, Comes, Renewed, JournalComes}
+use Rattle.four_lattice.specs.Laws.{IsOneJudgement, IsConfirmed}
+use Rattle.four_lattice.specs.Uses.{most_side_bytes}
 use Rattle.four_lattice.specs.Lattices.{IsThere}
 use Rattle.four_lattice.specs.Verified.{IsVerified}
 use Rattle.four_lattice.specs.declared.lattices.Construction.{Construction}
@@ -37,7 +41,7 @@ use Rattle.four_lattice.specs.declared.ending.Refusal.{Refusal}
 use Rattle.four_lattice.specs.declared.ending.Refusal.TheVariants as refusal
 use Rattle.four_lattice.specs.declared.words.Job.{Job}
 use Rattle.four_lattice.specs.declared.words.Job.TheVariants as jobs
-use Rattle.four_lattice.proofs.AuditedLaws.{HasFunctions, has_functions, one_unaudited, no_unaudited}
+use Rattle.four_lattice.proofs.AuditedLaws.{has_functions, one_unaudited, no_unaudited}
 use Rattle.four_lattice.proofs.VerifiedLaws.{one_denial, no_denial}
 use Rattle.four_lattice.proofs.ReplayedLaws.{one_first_fault, no_first_fault}
 
@@ -62,6 +66,13 @@ last_one : (R R' : Refusal → Type 0) (Holds : Type 0) (task : Task) → ((a b 
 last_one R R' Holds task one none none' i j a b = elim a [
   | inl h ↦ elim b [ inl k ↦ h.2 ∙ ap Refused (one h.0 k.0 h.1 k.1) ∙ sym k.2 | inr k ↦ absurd (none h.0 h.1 k.0) ]
   | inr h ↦ elim b [ inl k ↦ absurd (none' k.0 k.1 h.0) | inr k ↦ h.1 ∙ sym k.1 ]
+]
+
+test_one : (R R' : Refusal → Type 0) (Holds : Type 0) (next next' : Judgement → Type 0) → ((a b : Refusal) → R a → R' b → a ≡ b) → ((a : Refusal) → R a → Holds → ⊥) → ((a : Refusal) → R' a → Holds → ⊥)
+    → ((i j : Judgement) → next i → next' j → i ≡ j) → (i j : Judgement) → Test R Holds next i → Test R' Holds next' j → i ≡ j
+test_one R R' Holds next next' one none none' rest i j a b = elim a [
+  | inl h ↦ elim b [ inl k ↦ h.2 ∙ ap Refused (one h.0 k.0 h.1 k.1) ∙ sym k.2 | inr k ↦ absurd (none h.0 h.1 k.0) ]
+  | inr h ↦ elim b [ inl k ↦ absurd (none' k.0 k.1 h.0) | inr k ↦ rest i j h.1 k.1 ]
 ]
 
 -- What two readings of one text say together, where the one is that it is told.
@@ -111,6 +122,14 @@ module _ (Of : Option (List ℕ) → (List ℕ → Type 0) → Type 0) (both : T
       → (i j : Judgement) → Stage Parts (TextRefuses IsSomeAnd told as_pla IsPlaRefused) (λ x. IsSomeAnd told (λ t. Reads t x)) next i
       → Stage Parts (TextRefuses Of told as_pla IsPlaRefused) (λ x. Of told (λ t. Reads t x)) next' j → i ≡ j
   pla_one_of told next next' rest = text_one_of told as_pla IsPlaRefused Reads (λ t a b h k. Refused-once t a b h k) (λ t a x h k. Reads-or_Refused t x a k h) (λ t x y h k. Reads-once t x y h k) next next' rest
+
+  -- the text of an array behind a PLA
+  array_one : (told : Option (List ℕ)) (parts : Parts) (next next' : Defects → Judgement → Type 0) → ((x : Defects) (i j : Judgement) → next x i → next' x j → i ≡ j)
+      → (i j : Judgement) → Stage Defects (TextRefuses IsSomeAnd told as_array (IsArrayRefused parts)) (λ x. IsSomeAnd told (λ t. ReadsArray (drop parts.rest t) x)) next i
+      → Stage Defects (TextRefuses Of told as_array (IsArrayRefused parts)) (λ x. Of told (λ t. ReadsArray (drop parts.rest t) x)) next' j → i ≡ j
+  array_one told parts next next' rest =
+      text_one told as_array (IsArrayRefused parts) (λ t x. ReadsArray (drop parts.rest t) x) (λ t a b h k. one_array_refusal (drop parts.rest t) a b h k)
+      (λ t a x h k. never_both (drop parts.rest t) x a k h) (λ t x y h k. one_reading (drop parts.rest t) x y h k) next next' rest
 
   -- the text of a formula
   same_refusal : (text : List ℕ) (a b : CnfRefusal) → cnf_of text ≡ Err a → cnf_of text ≡ Err b → a ≡ b
@@ -263,6 +282,17 @@ module _ (Of : Option (List ℕ) → (List ℕ → Type 0) → Type 0) (both : T
       pla_one x.pla next next
       (λ parts. last_one (LacksOutput output parts) (LacksOutput output parts) (IsThere output parts.outputs) (Minima rails budget output parts) (λ a b h k. h.1 ∙ sym k.1) (λ a h k. h.0 k) (λ a h k. h.0 k))
 
+  map_one : (budget output : ℕ) (x : Texts) (i j : Judgement) → MapComes IsSomeAnd budget output x i → MapComes Of budget output x j → i ≡ j
+  map_one budget output x =
+      let lacks = LacksOutput (Some output) in
+      let there = λ (parts : Parts). IsThere (Some output) parts.outputs in
+      let last = λ (parts : Parts) (a : Defects) (j : Judgement). j ≡ Accepted (Placed budget output a parts) in
+      pla_one x.pla (λ parts. Test (lacks parts) (there parts) (Stage Defects (ArrayRefuses IsSomeAnd x parts) (ArrayGives IsSomeAnd x parts) (last parts)))
+      (λ parts. Test (lacks parts) (there parts) (Stage Defects (ArrayRefuses Of x parts) (ArrayGives Of x parts) (last parts)))
+      (λ parts. test_one (lacks parts) (lacks parts) (there parts) (Stage Defects (ArrayRefuses IsSomeAnd x parts) (ArrayGives IsSomeAnd x parts) (last parts))
+      (Stage Defects (ArrayRefuses Of x parts) (ArrayGives Of x parts) (last parts)) (λ a b h k. h.1 ∙ sym k.1) (λ a h k. h.0 k) (λ a h k. h.0 k)
+      (array_one x.pla parts (last parts) (last parts) (λ a i j h k. h ∙ sym k)))
+
   one_gone : (o : Option Function) (f : Function) → o ≡ None → o ≡ Some f → ⊥
   one_gone o f p q = cc
 
@@ -294,12 +324,12 @@ module _ (Of : Option (List ℕ) → (List ℕ → Type 0) → Type 0) (both : T
       (λ lines. last_one (LinesRefuse IsSomeAnd x formula lines) (LinesRefuse Of x formula lines) (IsAccepted formula lines × (adds_empty formula lines ≡ true)) Refuted
       (λ a b h k. one_stop formula lines h.0 k.0 (one_end x.side h.0 k.0 h.1 k.1) a b h.2 k.2) (λ a h k. accepted_and_refused formula lines h.0 a h.2 k) (λ a h k. accepted_and_refused formula lines h.0 a h.2 k)))
 
-  audit_one : (x : Texts) (i j : Judgement) → AuditComes IsSomeAnd x i → AuditComes Of x j → i ≡ j
-  audit_one x =
-      pla_one_of x.pla (λ parts. Stage JournalParts (JournalRefuses IsSomeAnd x) (JournalGives IsSomeAnd x) (λ journal. Last (Unconfirms parts journal) (Audited parts journal) (Confirmed journal)))
-      (λ parts. Stage JournalParts (JournalRefuses Of x) (JournalGives Of x) (λ journal. Last (Unconfirms parts journal) (Audited parts journal) (Confirmed journal)))
-      (λ parts read. journal_one x.side (λ journal. Last (Unconfirms parts journal) (Audited parts journal) (Confirmed journal)) (λ journal. Last (Unconfirms parts journal) (Audited parts journal) (Confirmed journal))
-      (λ journal. last_one (Unconfirms parts journal) (Unconfirms parts journal) (Audited parts journal) (Confirmed journal)
+  journal_tested : (task : Parts → JournalParts → Task) (x : Texts) (i j : Judgement) → JournalComes IsSomeAnd task x i → JournalComes Of task x j → i ≡ j
+  journal_tested task x =
+      pla_one_of x.pla (λ parts. Stage JournalParts (JournalRefuses IsSomeAnd x) (JournalGives IsSomeAnd x) (λ journal. Last (Unconfirms parts journal) (Audited parts journal) (task parts journal)))
+      (λ parts. Stage JournalParts (JournalRefuses Of x) (JournalGives Of x) (λ journal. Last (Unconfirms parts journal) (Audited parts journal) (task parts journal)))
+      (λ parts read. journal_one x.side (λ journal. Last (Unconfirms parts journal) (Audited parts journal) (task parts journal)) (λ journal. Last (Unconfirms parts journal) (Audited parts journal) (task parts journal))
+      (λ journal. last_one (Unconfirms parts journal) (Unconfirms parts journal) (Audited parts journal) (task parts journal)
       (λ a b h k. h.2 ∙ ap (λ r. refusal.Unconfirmed (Unaudited r)) (one_unaudited parts journal (has_functions x.pla parts read) h.0 k.0 h.1 k.1) ∙ sym k.2)
       (λ a h k. no_unaudited parts journal (has_functions x.pla parts read) h.0 h.1 k) (λ a h k. no_unaudited parts journal (has_functions x.pla parts read) h.0 h.1 k)))
 
@@ -309,8 +339,10 @@ module _ (Of : Option (List ℕ) → (List ℕ → Type 0) → Type 0) (both : T
   job_one (jobs.Cnf output size) x i j h k = encoding_one output size x i j h k
   job_one jobs.Verify x i j h k = verify_one x i j h k
   job_one jobs.Check x i j h k = check_one x i j h k
-  job_one jobs.Audit x i j h k = audit_one x i j h k
+  job_one jobs.Audit x i j h k = journal_tested (λ parts journal. Confirmed journal) x i j h k
+  job_one jobs.Renew x i j h k = journal_tested Renewed x i j h k
   job_one (jobs.Synth conflicts output rails) x i j h k = synth_one rails conflicts output x i j h k
+  job_one (jobs.Map conflicts output) x i j h k = map_one conflicts output x i j h k
 
   -- words and texts
   one_of : (asked : Option Job) (x : Texts) (i j : Judgement) → Comes IsSomeAnd asked x i → Comes Of asked x j → i ≡ j
@@ -333,3 +365,8 @@ judged_once = one_of IfSome where_told
 
 pub one_judgement : IsOneJudgement
 one_judgement = one_of IsSomeAnd is_told
+
+pub is_confirmed : IsConfirmed
+is_confirmed x parts journal pla side few is audited =
+    let gives : JournalGives IsSomeAnd x journal = subst (λ (o : Option (List ℕ)). IsSomeAnd o (λ bytes. (length bytes ≤ most_side_bytes) × GivesJournal bytes (Ok journal))) (sym side) (few, (is, refl)) in
+    inr (parts, pla, inr (journal, gives, inr (audited, refl)))

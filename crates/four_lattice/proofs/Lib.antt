@@ -18,3 +18,4 @@ pub mod SynthLists
 pub mod SynthLaws
 pub mod SynthFinish
 pub mod RejectedLaws
+pub mod MapFinish

@@ -1,13 +1,13 @@
 -- Finders that are asked for lattices of one output after another.
-use Rattle.std.proofs.Common.{◌≡◌, ◌⊎◌, inl, inr, ℕ, ◌+◌, ◌-◌, ◌^◌, ◌<◌, ◌≤◌, List, [], ◌∷◌, ◌++◌, length, map, get_or, refl, sym, ap, ◌∙◌, subst, arith, length-append, append_assoc, Some}
+use Rattle.std.proofs.Common.{◌≡◌, inl, inr, ℕ, ◌+◌, ◌-◌, ◌<◌, ◌≤◌, List, [], ◌∷◌, ◌++◌, length, map, get_or, refl, sym, ap, ◌∙◌, subst, arith, length-append, Some}
 use Rattle.std.specs.Prelude.{All, slice_get}
-use Rattle.std.specs.List.{Contains, range_with_len}
+use Rattle.std.specs.List.{range_with_len}
 use Rattle.std.proofs.lemmas.Option.{slice_get_cases}
 use Rattle.std.proofs.lemmas.List.{length-map}
 use Rattle.std.proofs.lemmas.List.Elements.{All-nil, All-append, All-weaker, All-map, All-get_or, All-from_get_or, Contains-append_left, Contains-push}
 use Rattle.cube_core.specs.Function.{Function}
 use Rattle.dual_product.specs.Dual.{dual_of}
-use Rattle.finder_set.specs.Finders.{IsLeast, IsWrongProposal, AreAsked, StayInOrder}
+use Rattle.finder_set.specs.Finders.{IsWrongProposal, AreAsked, StayInOrder}
 use Rattle.finder_set.specs.declared.improve.Dropped.{Dropped}
 use Rattle.journal_text.specs.Least.{area}
 use Rattle.lattice_grid.specs.Rails.{IsFull}
@@ -16,12 +16,11 @@ use Rattle.wire_io.specs.Causes.{Rose}
 use Rattle.area_search.specs.Answer.{AreUsed}
 use Rattle.four_lattice.specs.declared.ending.Ending.{Ending}
 use Rattle.four_lattice.specs.declared.ending.Ending.TheVariants as ending
-use Rattle.four_lattice.specs.declared.ending.Refusal.{Refusal}
 use Rattle.four_lattice.specs.declared.ending.Refusal.TheVariants.{Words, Input, Side, Unconfirmed}
 use Rattle.four_lattice.specs.declared.synth.Rejected.{Rejected}
 use Rattle.four_lattice.specs.Ending.{status_of}
 use Rattle.four_lattice.proofs.SynthLaws.{from-more}
-use Rattle.four_lattice.specs.Rejected.{IsRejected, AreAskedFor, AreLeftAlone, AreAskedWhereFull, AreUsedOnce, rejected_for, IsWorkDone, IsStatusOfWork}
+use Rattle.four_lattice.specs.Rejected.{IsRejected, AreAskedFor, AreAskedWhereFull, AreUsedOnce, rejected_for, IsWorkDone, IsStatusOfWork}
 
 rejected_wider : (parts : Parts) (outputs : List ℕ) (output : ℕ) (r : Rejected) → IsRejected parts outputs r → IsRejected parts (outputs ++ output ∷ []) r
 rejected_wider parts outputs output r h = record { chosen = Contains-append_left outputs (output ∷ []) r.output h.chosen; function = h.function; of_output = h.of_output; wrong = h.wrong }

@@ -10,11 +10,12 @@ use Rattle.audit_core.specs.Audit.{Audited}
 use Rattle.clause_core.specs.Formula.{Formula}
 use Rattle.cube_core.specs.Function.{Function}
 use Rattle.journal_text.specs.Parts.{JournalParts}
+use Rattle.lattice_grid.specs.Defects.{Defects}
 use Rattle.lrat_replay.specs.declared.line.Line.{Line}
 use Rattle.pla_reader.specs.Parts.{Parts}
 use Rattle.report_text.specs.Report.{ReportParts}
 use Rattle.four_lattice.specs.Check.{IsAccepted, adds_empty}
-use Rattle.four_lattice.specs.Judge.{Texts, Task, Judgement, Refused as Refuses, Accepted, Lattices, Encoding, Realised, Refuted, Confirmed, Minima, Stage, Last, PlaRefuses, PlaGives, CnfRefuses, CnfGives, LratRefuses, LratGives, ReportRefuses, ReportGives, LacksOutput, LacksFunction, Denies, LinesRefuse, JournalRefuses, JournalGives, Unconfirms, Comes, JobComes}
+use Rattle.four_lattice.specs.Judge.{Texts, Task, Judgement, Refused as Refuses, Accepted, Lattices, Encoding, Realised, Refuted, Confirmed, Minima, Placed, Stage, Test, Last, ArrayRefuses, ArrayGives, PlaRefuses, PlaGives, CnfRefuses, CnfGives, LratRefuses, LratGives, ReportRefuses, ReportGives, LacksOutput, LacksFunction, Denies, LinesRefuse, JournalRefuses, JournalGives, Unconfirms, Comes, JobComes, Renewed, JournalComes}
 use Rattle.four_lattice.specs.Lattices.{IsThere}
 use Rattle.four_lattice.specs.Verified.{IsVerified}
 use Rattle.four_lattice.specs.declared.lattices.Construction.TheVariants as construction
@@ -31,7 +32,7 @@ use Rattle.four_lattice.specs.declared.ending.Refusal.TheVariants as refusal
 use Rattle.four_lattice.specs.declared.ending.Ending.{Ending}
 use Rattle.four_lattice.specs.declared.ending.Ending.TheVariants.{Done, Undecided, Refused, ReadFault, WriteFault, NoMemory}
 use Rattle.four_lattice.specs.declared.words.Job.{Job}
-use Rattle.four_lattice.specs.declared.words.Job.TheVariants.{Pairs, Dual, Cnf, Verify, Check, Audit, Synth}
+use Rattle.four_lattice.specs.declared.words.Job.TheVariants.{Pairs, Dual, Cnf, Verify, Check, Audit, Synth, Map, Renew}
 use Rattle.four_lattice.proofs.JudgeLaws.{judged_once}
 
 refused_apart : (r : Refusal) (task : Task) → Refuses r ≡ Accepted task → ⊥
@@ -99,6 +100,12 @@ last_words R Holds task not_here h = elim h [
   | inr b ↦ refused_apart refusal.Words task b.1
 ]
 
+test_words : (R : Refusal → Type 0) (Holds : Type 0) (next : Judgement → Type 0) → (R refusal.Words → ⊥) → (next (Refuses refusal.Words) → ⊥) → Test R Holds next (Refuses refusal.Words) → ⊥
+test_words R Holds next not_here not_later h = elim h [
+  | inl a ↦ not_here (subst R (sym (refused_same refusal.Words a.0 a.2)) a.1)
+  | inr b ↦ not_later b.1
+]
+
 not_input : (r : InputRefusal) → refusal.Words ≡ refusal.Input r → ⊥
 not_input r e = cc
 
@@ -107,6 +114,13 @@ not_side r e = cc
 
 not_unconfirmed : (r : Unconfirmed) → refusal.Words ≡ refusal.Unconfirmed r → ⊥
 not_unconfirmed r e = cc
+
+journal_words : (task : Parts → JournalParts → Task) (x : Texts) → JournalComes IfSome task x (Refuses refusal.Words) → ⊥
+journal_words task x h =
+    stage_words Parts (PlaRefuses IfSome x) (PlaGives IfSome x)
+    (λ parts. Stage JournalParts (JournalRefuses IfSome x) (JournalGives IfSome x) (λ journal. Last (Unconfirms parts journal) (Audited parts journal) (task parts journal))) (λ p. not_input _ p.2)
+    (λ parts. stage_words JournalParts (JournalRefuses IfSome x) (JournalGives IfSome x) (λ journal. Last (Unconfirms parts journal) (Audited parts journal) (task parts journal)) (λ p. not_side _ p.2)
+    (λ journal. last_words (Unconfirms parts journal) (Audited parts journal) (task parts journal) (λ p. not_unconfirmed _ p.2))) h
 
 no_words : (job : Job) (x : Texts) → JobComes IfSome job x (Refuses refusal.Words) → ⊥
 no_words (Pairs output) x h =
@@ -130,15 +144,18 @@ no_words Check x h =
     (λ formula. Stage (List Line) (LratRefuses IfSome x) (LratGives IfSome x) (λ lines. Last (LinesRefuse IfSome x formula lines) (IsAccepted formula lines × (adds_empty formula lines ≡ true)) Refuted)) (λ p. not_input _ p.2)
     (λ formula. stage_words (List Line) (LratRefuses IfSome x) (LratGives IfSome x) (λ lines. Last (LinesRefuse IfSome x formula lines) (IsAccepted formula lines × (adds_empty formula lines ≡ true)) Refuted) (λ p. not_side _ p.2)
     (λ lines. last_words (LinesRefuse IfSome x formula lines) (IsAccepted formula lines × (adds_empty formula lines ≡ true)) Refuted (λ p. elim p.2 [ inl a ↦ not_unconfirmed _ a.3 | inr b ↦ not_unconfirmed _ b.2 ]))) h
-no_words Audit x h =
-    stage_words Parts (PlaRefuses IfSome x) (PlaGives IfSome x)
-    (λ parts. Stage JournalParts (JournalRefuses IfSome x) (JournalGives IfSome x) (λ journal. Last (Unconfirms parts journal) (Audited parts journal) (Confirmed journal))) (λ p. not_input _ p.2)
-    (λ parts. stage_words JournalParts (JournalRefuses IfSome x) (JournalGives IfSome x) (λ journal. Last (Unconfirms parts journal) (Audited parts journal) (Confirmed journal)) (λ p. not_side _ p.2)
-    (λ journal. last_words (Unconfirms parts journal) (Audited parts journal) (Confirmed journal) (λ p. not_unconfirmed _ p.2))) h
+no_words Audit x h = journal_words (λ parts journal. Confirmed journal) x h
+no_words Renew x h = journal_words Renewed x h
 no_words (Synth conflicts output rails) x h =
     let next = λ (parts : Parts). Last (LacksOutput output parts) (IsThere output parts.outputs) (Minima rails conflicts output parts) in
     stage_words Parts (PlaRefuses IfSome x) (PlaGives IfSome x) next (λ p. not_input _ p.2)
     (λ parts. last_words (LacksOutput output parts) (IsThere output parts.outputs) (Minima rails conflicts output parts) (λ p. not_input _ p.1)) h
+no_words (Map conflicts output) x h =
+    let last = λ (parts : Parts) (a : Defects) (j : Judgement). j ≡ Accepted (Placed conflicts output a parts) in
+    let arrays = λ (parts : Parts). Stage Defects (ArrayRefuses IfSome x parts) (ArrayGives IfSome x parts) (last parts) in
+    stage_words Parts (PlaRefuses IfSome x) (PlaGives IfSome x) (λ parts. Test (LacksOutput (Some output) parts) (IsThere (Some output) parts.outputs) (arrays parts)) (λ p. not_input _ p.2)
+    (λ parts. test_words (LacksOutput (Some output) parts) (IsThere (Some output) parts.outputs) (arrays parts) (λ p. not_input _ p.1)
+    (stage_words Defects (ArrayRefuses IfSome x parts) (ArrayGives IfSome x parts) (last parts) (λ p. not_input _ p.2) (λ a e. refused_apart refusal.Words (Placed conflicts output a parts) e))) h
 
 refused_words : (asked : Option Job) (x : Texts) → Comes IfSome asked x (Refuses refusal.Words) → asked ≡ None
 refused_words None x h = refl

@@ -1,4 +1,4 @@
--- How what the parts of `synth` write comes to a report and a journal, or to fronts of them.
+-- How what the parts of `synth` and `map` write comes to a report and a journal, or to fronts of them.
 use Rattle.std.proofs.Common.{◌≡◌, ℕ, suc, ◌+◌, ◌-◌, ◌<◌, ◌≤◌, ◌||◌, List, [], ◌∷◌, ◌++◌, length, map, get_or, refl, sym, ap, ap₂, ◌∙◌, subst, arith, append_assoc, length-append, codes, inl, inr, ◌⊎◌, Bool, true, false, Some, None}
 use Rattle.std.specs.Prelude.{All, IfSome, slice_get, ◌^◌, min}
 use Rattle.std.specs.declared.option.Option.{Option}
@@ -9,6 +9,7 @@ use Rattle.std.proofs.lemmas.List.Folds.{list_any-append}
 use Rattle.std.proofs.lemmas.List.Elements.{All-nil, All-cons, All-head, All-tail, All-weaker, All-append, All-push, All-get_or, Contains-append_left, Contains-append_right, Contains-append_cases}
 use Rattle.std.proofs.lemmas.Option.{slice_get-get_or}
 use Rattle.cube_core.specs.Function.{Function}
+use Rattle.lattice_grid.specs.Defects.{Defects}
 use Rattle.pla_reader.specs.Name.{IsName}
 use Rattle.pla_reader.specs.Parts.{Parts, IsPla}
 use Rattle.pla_reader.specs.Names.{bytes_of}
@@ -31,18 +32,21 @@ use Rattle.journal_text.specs.Parts.{Part, Question, Answered, JournalParts}
 use Rattle.journal_text.specs.Text as text
 use Rattle.journal_text.specs.Text.{part_text, parts_text, front_text, journal_text}
 use Rattle.area_search.specs.Answer.{HoldsOfLattices}
-use Rattle.area_search.specs.Searched.{StoppedSearch}
-use Rattle.lattice_question.specs.Written.{IsSectionOf, HasNoSection, IsShown, Searched}
-use Rattle.area_search.specs.declared.fault.SearchFault.{SearchFault}
+use Rattle.defect_array.specs.Place.{HoldsOnArray}
+use Rattle.lattice_question.specs.Written.{IsSectionOf, HasNoSection, IsShown, Searched, StoppedAsking}
 use Rattle.four_lattice.specs.Devices.{Change, GainsTold}
 use Rattle.four_lattice.specs.Lattices.{IsThere}
-use Rattle.four_lattice.specs.Minima.{Asked, asked, is_open, HasSynthCause, BothLater, IsBlockOf, AnswersOutput, CutsOutput, WroteOutput, StoppedOutput, Settled, IsLeft, WroteBlocks, StoppedBlocks, WroteHeads, StoppedHeads, WroteEnds, StoppedEnds, WroteMinima, StoppedMinima}
-use Rattle.four_lattice.specs.Synth.{IsFront, chosen_outputs, IsNamed, IsMinimaReport, IsMinimaJournal, IsHeld, IsShownIn, IsShowing, StandsWhole, StandsShown, BeginsShowing, BeginMinima, answers_of, is_undecided}
+use Rattle.four_lattice.specs.Minima.{Asked, asked, asked_on, is_open, HasSinkCause, BothLater, IsBlockOf, AnswersOutput, CutsOutput, WroteOutput, StoppedOutput, Settled, IsLeft, WroteBlocks, StoppedBlocks, WroteHeads, StoppedHeads, WroteEnds, StoppedEnds, WroteAnswers, StoppedAnswers, basis_of}
+use Rattle.four_lattice.specs.Synth.{Sought, Least, OnArray, Holds, IsFront, chosen_outputs, IsNamed, IsAnswersReport, IsAnswersJournal, IsHeld, IsShownIn, IsShowing, StandsWhole, StandsShown, BeginsShowing, BeginAnswers, answers_of, is_undecided}
+use Rattle.area_search.specs.Searched.{StoppedSearch}
+use Rattle.area_search.specs.declared.fault.SearchFault.{SearchFault}
+use Rattle.audit_core.specs.Audit.{IsBelow, AreRight}
+use Rattle.audit_core.specs.Laws.{AddsRight}
+use Rattle.audit_core.specs.Sought.{IsSection}
 use Rattle.four_lattice.specs.declared.lattices.WorkFault.{WorkFault}
 use Rattle.four_lattice.specs.declared.lattices.WorkFault.TheVariants.{Write, NoMemory}
 use Rattle.four_lattice.specs.declared.synth.Decision.{Decision}
 use Rattle.four_lattice.specs.declared.synth.Decision.TheVariants.{Decided}
-use Rattle.std.proofs.lemmas.Bool.{true≢false}
 use Rattle.std.proofs.lemmas.Option.{slice_get-map, slice_get_read}
 use Rattle.std.specs.Prelude.{option_map}
 use Rattle.four_lattice.proofs.BlocksLaws.{names_are, input_names_are}
@@ -91,7 +95,7 @@ rose-later a b c h l = let r : min (a + 1) (2 ^ 64 - 1) ≤ b = h in within (min
   within : (x y z : ℕ) → x ≤ y → y ≤ z → x ≤ z
   within x y z p q = omega (arith, p, q)
 
-pub cause-later : (fault : WorkFault) (o0 o1 o2 j0 j1 j2 : Device) → BothLater (between o0 o1) (between j0 j1) → HasSynthCause fault (between o1 o2) (between j1 j2) → HasSynthCause fault (between o0 o2) (between j0 j2)
+pub cause-later : (fault : WorkFault) (o0 o1 o2 j0 j1 j2 : Device) → BothLater (between o0 o1) (between j0 j1) → HasSinkCause fault (between o1 o2) (between j1 j2) → HasSinkCause fault (between o0 o2) (between j0 j2)
 cause-later Write o0 o1 o2 j0 j1 j2 l h = elim h [ inl a ↦ inl (rose-earlier o0.faults o1.faults o2.faults l.of_out a) | inr b ↦ inr (rose-earlier j0.faults j1.faults j2.faults l.of_journal b) ]
 cause-later NoMemory o0 o1 o2 j0 j1 j2 l h = tt
 
@@ -161,25 +165,33 @@ left-begun a k rest block more blocks pending of sections left = record {
 pub asked-of : (pla : Pla) (rails budget : ℕ) → IsPla (parts_of pla) → rails ≤ 1048575 → IsAskedOf (asked rails budget (parts_of pla))
 asked-of pla rails budget h few = record { pla = h; rails = few; inputs = input_names_are pla h; outputs = names_are pla.output_names.keys }
 
+pub asked_on-of : (pla : Pla) (array : Defects) (budget : ℕ) → IsPla (parts_of pla) → IsAskedOf (asked_on array budget (parts_of pla))
+asked_on-of pla array budget h = record { pla = h; rails = omega arith; inputs = input_names_are pla h; outputs = names_are pla.output_names.keys }
+
 -- ---- one output
 
-none-listed : (rails : ℕ) (f : Function) (answer : Answer) (proofs : List Proof) → HoldsOfLattices rails f answer → ((on off : ℕ) → answer ≡ NoRails on off → proofs ≡ []) → lists Two (form_of answer) ≡ false → proofs ≡ []
-none-listed rails f (Found g) proofs h none e = absurd h
-none-listed rails f (Minimum g) proofs h none e = absurd (true≢false e)
-none-listed rails f (Undecided g least at after) proofs h none e = absurd (true≢false e)
-none-listed rails f (Mapped g a) proofs h none e = absurd h
-none-listed rails f (NoneMapped a) proofs h none e = absurd h
-none-listed rails f (MapUndecided a after) proofs h none e = absurd h
-none-listed rails f (NoRails on off) proofs h none e = none on off refl
+stand-least : (rails : ℕ) (f : Function) (answer : Answer) → HoldsOfLattices rails f answer → MayStand answer
+stand-least rails f (Found g) h = absurd h
+stand-least rails f (Minimum g) h = tt
+stand-least rails f (Undecided g least at after) h = tt
+stand-least rails f (Mapped g a) h = absurd h
+stand-least rails f (NoneMapped a) h = absurd h
+stand-least rails f (MapUndecided a after) h = absurd h
+stand-least rails f (NoRails on off) h = tt
 
-may-stand : (rails : ℕ) (f : Function) (answer : Answer) → HoldsOfLattices rails f answer → MayStand answer
-may-stand rails f (Found g) h = absurd h
-may-stand rails f (Minimum g) h = tt
-may-stand rails f (Undecided g least at after) h = tt
-may-stand rails f (Mapped g a) h = absurd h
-may-stand rails f (NoneMapped a) h = absurd h
-may-stand rails f (MapUndecided a after) h = absurd h
-may-stand rails f (NoRails on off) h = tt
+stand-on : (f : Function) (array : Defects) (budget : ℕ) (answer : Answer) → HoldsOnArray f array budget answer → MayStand answer
+stand-on f array budget (Found g) h = absurd h
+stand-on f array budget (Minimum g) h = absurd h
+stand-on f array budget (Undecided g least at after) h = absurd h
+stand-on f array budget (Mapped g a) h = tt
+stand-on f array budget (NoneMapped a) h = tt
+stand-on f array budget (MapUndecided a after) h = tt
+stand-on f array budget (NoRails on off) h = absurd h
+
+-- an answer for what is sought may stand in a journal
+may-stand : (sought : Sought) (rails budget : ℕ) (f : Function) (answer : Answer) → Holds sought rails budget f answer → MayStand answer
+may-stand Least rails budget f answer h = stand-least rails f answer h
+may-stand (OnArray array) rails budget f answer h = stand-on f array budget answer h
 
 -- the name of an output, as the code reads it
 pub name-at : (keys slice : List Name) (k : ℕ) (name copy : Name) → slice ≡ keys → k < length slice → name ≡ get_or slice k name → bytes_of copy ≡ bytes_of name → slice_get (map bytes_of keys) k ≡ Some (bytes_of copy)
@@ -187,24 +199,24 @@ name-at keys slice k name copy same within is copied =
     ap (λ (ns : List Name). slice_get (map bytes_of ns) k) (sym same) ∙ slice_get-map bytes_of slice k ∙ ap (option_map bytes_of) (slice_get_read slice (length slice) k name refl within is) ∙ ap (λ (n : List ℕ). Some n) (sym copied)
 
 pub block-of : (a : Asked) (k : ℕ) (f : Function) (name : List ℕ) (answer : Answer) (proofs : List Proof) → IsAskedOf a → k < a.parts.outputs → slice_get a.parts.output_names k ≡ Some name → IsName name
-    → HoldsOfLattices a.rails f answer → IsAnswer answer → All IsProof proofs → ((on off : ℕ) → answer ≡ NoRails on off → proofs ≡ [])
+    → Holds a.sought a.rails a.budget f answer → IsAnswer answer → All IsProof proofs → (lists Two (form_of answer) ≡ false → proofs ≡ [])
     → IsBlockOf a k (record { output = k; name = name; answer = answer; proofs = proofs })
 block-of a k f name answer proofs h l named is_name holds is_answer each none =
     let few = h.pla.few_outputs in
     record {
       output_is = refl;
       named = named;
-      bounds = record { output = omega (arith, l, few); name = is_name; answer = is_answer; has = tt; each = each; none = none-listed a.rails f answer proofs holds none };
-      may_stand = may-stand a.rails f answer holds;
+      bounds = record { output = omega (arith, l, few); name = is_name; answer = is_answer; has = tt; each = each; none = none };
+      may_stand = may-stand a.sought a.rails a.budget f answer holds;
     }
 
 -- nothing was written
 pub cuts-none : (a : Asked) (k : ℕ) (j : Device) → IsAskedOf a → k < a.parts.outputs → CutsOutput a k (between j j)
 cuts-none a k j h l = record { block = made a.parts k; of = made-of a k h l; more = []; sections = All-nil (IsSectionOf k); front = GainsFront-none j.told (parts_text Two ([] ++ Answered (made a.parts k) ∷ [])) }
 
--- the search stopped
-pub cuts-searched : (a : Asked) (k : ℕ) (fault : SearchFault) (j0 j1 : Device) → IsAskedOf a → k < a.parts.outputs → StoppedSearch k j0.told j1.told j0.faults j1.faults fault → CutsOutput a k (between j0 j1)
-cuts-searched a k fault j0 j1 h l st = record {
+-- the asking stopped
+pub cuts-searched : (a : Asked) (k : ℕ) (OfSink : Type 0) (j0 j1 : Device) → IsAskedOf a → k < a.parts.outputs → StoppedAsking k j0.told j1.told j0.faults j1.faults OfSink → CutsOutput a k (between j0 j1)
+cuts-searched a k OfSink j0 j1 h l st = record {
   block = made a.parts k;
   of = made-of a k h l;
   more = st.more;
@@ -216,7 +228,7 @@ cuts-searched a k fault j0 j1 h l st = record {
 answer-text : (more : List Part) (block : BlockParts) → parts_text Two (more ++ Answered block ∷ []) ≡ parts_text Two more ++ block_text Two block
 answer-text more block = flat_map-append (part_text Two) more (Answered block ∷ []) ∙ ap (λ w. parts_text Two more ++ w) (append-nil (block_text Two block))
 
--- the search was written, and no answer
+-- the questions were written, and no answer
 pub cuts-written : (a : Asked) (k : ℕ) (f : Function) (answer : Answer) (proofs : List Proof) (j0 j1 : Device) → IsAskedOf a → k < a.parts.outputs → Searched a.rails k f a.budget j0.told j1.told answer proofs → CutsOutput a k (between j0 j1)
 cuts-written a k f answer proofs j0 j1 h l s = record {
   block = made a.parts k;
@@ -239,7 +251,7 @@ cuts-answer a k f block j0 j1 j2 of s front = record {
 }
 
 -- the answer was written
-pub answers-output : (a : Asked) (k : ℕ) (f : Function) (block : BlockParts) (j0 j1 j2 : Device) → IsBlockOf a k block → slice_get a.parts.functions k ≡ Some f → HoldsOfLattices a.rails f block.answer
+pub answers-output : (a : Asked) (k : ℕ) (f : Function) (block : BlockParts) (j0 j1 j2 : Device) → IsBlockOf a k block → slice_get a.parts.functions k ≡ Some f → Holds a.sought a.rails a.budget f block.answer
     → Searched a.rails k f a.budget j0.told j1.told block.answer block.proofs → Gains j1.told j2.told (block_text Two block) → AnswersOutput a k block (between j0 j2)
 answers-output a k f block j0 j1 j2 of is holds s gained = record {
   of = of;
@@ -289,7 +301,7 @@ settled-more a outputs k block j0 j1 j2 new s ans =
       all = s.all ++ more;
       outputs_are = map-append (λ (b : BlockParts). b.output) s.blocks (block ∷ []) ∙ ap₂ (λ (x : List ℕ) (y : ℕ). x ++ y ∷ []) s.outputs_are ans.of.output_is;
       named = All-push (IsNamed a.parts) s.blocks block s.named ans.of.named;
-      held = All-push (IsHeld a.rails a.parts) s.blocks block s.held (record { function = ans.function; of_output = of_output; holds = ans.holds });
+      held = All-push (IsHeld a.sought a.rails a.budget a.parts) s.blocks block s.held (record { function = ans.function; of_output = of_output; holds = ans.holds });
       answers = answers-append s.all more
           ∙ ap₂ (λ (x y : List BlockParts). x ++ y) s.answers (answers-append ans.more (Answered block ∷ []) ∙ ap (λ (w : List BlockParts). w ++ block ∷ []) (no_answers k ans.more ans.sections));
       bounds = All-append (IsPart Two) s.all more s.bounds (All-push (IsPart Two) ans.more (Answered block) (sections-bounds k ans.more ans.sections) (ans.of.bounds, ans.of.may_stand));
@@ -335,29 +347,67 @@ settled-none a told = record {
   all = [];
   outputs_are = refl;
   named = All-nil (IsNamed a.parts);
-  held = All-nil (IsHeld a.rails a.parts);
+  held = All-nil (IsHeld a.sought a.rails a.budget a.parts);
   answers = refl;
   bounds = All-nil (IsPart Two);
   sections = λ section c. absurd (omega (arith, c.1));
   shown = always told (All-nil (IsShownIn a.rails a.budget a.parts []));
 }
 
+none-right : (a : Asked) → AreRight (basis_of a) []
+none-right a before part later whole = absurd (let n = ap length whole in omega (arith, n, length-append before (part ∷ later)))
+
+below-parts : (k : ℕ) (all : List Part) → All (λ (b : BlockParts). b.output < k) (answers_of all) → All (IsBelow k) all
+below-parts k [] low = All-nil (IsBelow k)
+below-parts k (Question s ∷ all) low = All-cons (IsBelow k) (Question s) all tt (below-parts k all low)
+below-parts k (Answered block ∷ all) low =
+    All-cons (IsBelow k) (Answered block) all (All-head (λ (b : BlockParts). b.output < k) block (answers_of all) low) (below-parts k all (All-tail (λ (b : BlockParts). b.output < k) block (answers_of all) low))
+
+below-blocks : (k : ℕ) (blocks : List BlockParts) → All (λ i. i < k) (map (λ (b : BlockParts). b.output) blocks) → All (λ (b : BlockParts). b.output < k) blocks
+below-blocks k [] low = All-nil (λ (b : BlockParts). b.output < k)
+below-blocks k (block ∷ blocks) low =
+    let outputs = map (λ (b : BlockParts). b.output) blocks in
+    All-cons (λ (b : BlockParts). b.output < k) block blocks (All-head (λ i. i < k) block.output outputs low) (below-blocks k blocks (All-tail (λ i. i < k) block.output outputs low))
+
+-- the parts with those of one output more
+right-more : (law : AddsRight) (a : Asked) (outputs : List ℕ) (k : ℕ) (block : BlockParts) (told : Option (List ℕ)) (j : Change) → IsPla a.parts → All (λ i. i < k) outputs → (Contains outputs k → ⊥) → (s : Settled a outputs told) → (ans : AnswersOutput a k block j)
+    → AreRight (basis_of a) s.all → ((before : List Part) → HasNoSection before k → IsShown a.rails k ans.function a.budget (before ++ ans.more) block.answer block.proofs) → AreRight (basis_of a) (s.all ++ (ans.more ++ Answered block ∷ []))
+right-more law a outputs k block told j pla low new s ans right shows =
+    let shown = subst (λ output. IsShown a.rails output ans.function a.budget (s.all ++ ans.more) block.answer block.proofs) (sym ans.of.output_is) (shows s.all (no-section a outputs told k s new)) in
+    let is = ap (slice_get a.parts.functions) ans.of.output_is ∙ ans.of_output in
+    let earlier : All (IsBelow k) s.all =
+    below-parts k s.all (subst (All (λ (b : BlockParts). b.output < k)) (sym s.answers) (below-blocks k s.blocks (subst (All (λ i. i < k)) (sym s.outputs_are) low))) in
+    let later : All (IsBelow block.output) (s.all ++ ans.more) =
+    subst (λ output. All (IsBelow output) (s.all ++ ans.more)) (sym ans.of.output_is)
+    (All-append (IsBelow k) s.all ans.more earlier (All-weaker (IsSectionOf k) (IsBelow k) (section-below k) ans.more ans.sections)) in
+    law (basis_of a) s.all ans.more block ans.function pla right (All-weaker (IsSectionOf k) (IsSection (λ q. q.output ≡ block.output)) (section-for k block.output (sym ans.of.output_is)) ans.more ans.sections)
+    (record { later = later; name = ans.of.named; function = is }) shown.replayed shown.good shown.listed where
+      section-below : (k : ℕ) (p : Part) → IsSectionOf k p → IsBelow k p
+      section-below k (Question q) h = tt
+      section-below k (Answered b) h = absurd h
+
+      section-for : (k output : ℕ) → k ≡ output → (p : Part) → IsSectionOf k p → IsSection (λ q. q.output ≡ output) p
+      section-for k output e (Question q) h = h.0 ∙ e
+      section-for k output e (Answered b) h = h
+
 -- nothing is written yet
 pub wrote-none : (a : Asked) (o j : Device) → WroteBlocks a [] Decided (between o o) (between j j)
 unfolding settled-none
 wrote-none a o j = record {
   settled = settled-none a j.told;
+  right = always j.told (none-right a);
   decided = refl;
   out_gained = Gains-none o.told;
   journal_gained = Gains-none j.told;
   later = record { of_out = omega arith; of_journal = omega arith };
 }
 
-pub wrote-more : (a : Asked) (outputs : List ℕ) (k : ℕ) (d e f : Decision) (o0 o1 o2 j0 j1 j2 : Device) → (Contains outputs k → ⊥) → is_open f ≡ (is_open d || is_open e)
+pub wrote-more : (law : AddsRight) (a : Asked) (outputs : List ℕ) (k : ℕ) (d e f : Decision) (o0 o1 o2 j0 j1 j2 : Device) → IsPla a.parts → All (λ i. i < k) outputs → (Contains outputs k → ⊥) → is_open f ≡ (is_open d || is_open e)
     → WroteBlocks a outputs d (between o0 o1) (between j0 j1) → WroteOutput a k e (between o1 o2) (between j1 j2) → WroteBlocks a (outputs ++ k ∷ []) f (between o0 o2) (between j0 j2)
 unfolding settled-more
-wrote-more a outputs k d e f o0 o1 o2 j0 j1 j2 new joined w now = record {
+wrote-more law a outputs k d e f o0 o1 o2 j0 j1 j2 pla low new joined w now = record {
   settled = settled-more a outputs k now.block j0 j1 j2 new w.settled now.answers;
+  right = told-both j1.told j2.told _ _ _ _ now.answers.gained (right-more law a outputs k now.block j1.told (between j1 j2) pla low new w.settled now.answers) w.right now.answers.shown;
   decided = joined ∙ ap₂ (λ (x y : Bool). x || y) w.decided now.decided
       ∙ ap (λ (x : Bool). list_any (λ b. is_undecided b.answer) w.settled.blocks || x) (or-false (is_undecided now.block.answer))
       ∙ sym (list_any-append (λ (b : BlockParts). is_undecided b.answer) w.settled.blocks (now.block ∷ []));
@@ -414,7 +464,22 @@ stopped-more a outputs k rest d fault o0 o1 o2 j0 j1 j2 h below new w stop = eli
     cause = cause-later fault o0 o1 o2 j0 j1 j2 w.later stop.cause;
   }
 
+-- the one output that is asked for
+pub wrote-one : (law : AddsRight) (a : Asked) (k : ℕ) (d : Decision) (o0 o1 j0 j1 : Device) → IsPla a.parts → WroteOutput a k d (between o0 o1) (between j0 j1) → WroteBlocks a (k ∷ []) d (between o0 o1) (between j0 j1)
+wrote-one law a k d o0 o1 j0 j1 pla now = wrote-more law a [] k Decided d d o0 o0 o1 j0 j0 j1 pla (All-nil (λ i. i < k)) (λ c. none k c) refl (wrote-none a o0 j0) now where
+  none : (k : ℕ) → Contains [] k → ⊥
+  none k c = omega (arith, c.1)
+
+pub stopped-one : (a : Asked) (k : ℕ) (fault : WorkFault) (o0 o1 j0 j1 : Device) → IsAskedOf a → StoppedOutput a k fault (between o0 o1) (between j0 j1) → StoppedBlocks a (k ∷ []) fault (between o0 o1) (between j0 j1)
+stopped-one a k fault o0 o1 j0 j1 h st = stopped-more a [] k [] Decided fault o0 o0 o1 j0 j0 j1 h (All-nil (λ i. i < a.parts.outputs)) (λ c. none k c) (wrote-none a o0 j0) st where
+  none : (k : ℕ) → Contains [] k → ⊥
+  none k c = omega (arith, c.1)
+
 -- ---- the whole
+
+told-pair : (told : Option (List ℕ)) (P Q : Type 0) → IfSome told (λ _. P) → IfSome told (λ _. Q) → IfSome told (λ _. P × Q)
+told-pair None P Q p q = tt
+told-pair (Some bytes) P Q p q = (p, q)
 
 report-of : Asked → List BlockParts → ReportParts
 report-of a blocks = record { version = Two; rails = a.rails; input_names = a.parts.input_names; blocks = blocks }
@@ -423,7 +488,7 @@ journal-of : Asked → List Part → JournalParts
 journal-of a parts = record { version = Two; rails = a.rails; parts = parts }
 
 is-report : (a : Asked) (output : Option ℕ) (blocks : List BlockParts) (all : List Part) → IsAskedOf a → map (λ block. block.output) blocks ≡ chosen_outputs output a.parts.outputs → All (IsNamed a.parts) blocks
-    → answers_of all ≡ blocks → All (IsPart Two) all → IsMinimaReport a.rails output a.parts (report-of a blocks)
+    → answers_of all ≡ blocks → All (IsPart Two) all → IsAnswersReport a.rails output a.parts (report-of a blocks)
 unfolding report-of
 is-report a output blocks all h outputs named answers bounds = record {
   version = refl;
@@ -434,7 +499,7 @@ is-report a output blocks all h outputs named answers bounds = record {
   bounds = record { rails = h.rails; names = h.inputs; blocks = subst (All (IsBlock Two)) answers (answers-bounds all bounds) };
 }
 
-is-journal : (a : Asked) (blocks : List BlockParts) (all : List Part) → IsAskedOf a → answers_of all ≡ blocks → All (IsPart Two) all → IsMinimaJournal a.rails (report-of a blocks) (journal-of a all)
+is-journal : (a : Asked) (blocks : List BlockParts) (all : List Part) → IsAskedOf a → answers_of all ≡ blocks → All (IsPart Two) all → IsAnswersJournal a.rails (report-of a blocks) (journal-of a all)
 unfolding report-of journal-of
 is-journal a blocks all h answers bounds = record { version = refl; rails_are = refl; answers = answers; bounds = record { rails = h.rails; parts = bounds } }
 
@@ -451,20 +516,21 @@ report-gained a blocks b0 b1 b2 b3 g h k =
     subst (Gains b0 b3) (sym (report_text-is (record { version = Two; rails = a.rails; input_names = a.parts.input_names; blocks = blocks })))
     (Gains-append b0 b1 b3 (report.head_text Two a.rails a.parts.input_names) (blocks_text Two blocks ++ codes "end\n") g (Gains-append b1 b2 b3 (blocks_text Two blocks) (codes "end\n") h k))
 
-pub minima-whole : (a : Asked) (output : Option ℕ) (d : Decision) (o0 o1 o2 o3 j0 j1 j2 j3 : Device) → IsAskedOf a → WroteHeads a.rails a.parts.input_names (between o0 o1) (between j0 j1)
-    → WroteBlocks a (chosen_outputs output a.parts.outputs) d (between o1 o2) (between j1 j2) → WroteEnds (between o2 o3) (between j2 j3) → WroteMinima a output d (between o0 o3) (between j0 j3)
+pub answers-whole : (a : Asked) (output : Option ℕ) (d : Decision) (o0 o1 o2 o3 j0 j1 j2 j3 : Device) → IsAskedOf a → WroteHeads a.rails a.parts.input_names (between o0 o1) (between j0 j1)
+    → WroteBlocks a (chosen_outputs output a.parts.outputs) d (between o1 o2) (between j1 j2) → WroteEnds (between o2 o3) (between j2 j3) → WroteAnswers a output d (between o0 o3) (between j0 j3)
 unfolding report-of journal-of
-minima-whole a output d o0 o1 o2 o3 j0 j1 j2 j3 h heads w ends =
+answers-whole a output d o0 o1 o2 o3 j0 j1 j2 j3 h heads w ends =
     let s = w.settled in
     let r = report-of a s.blocks in
     let j = journal-of a s.all in
     let named = told-named j0.told j3.told (journal_text j) (IsShowing a.rails a.budget a.parts r) (journal-gained a s.all j0.told j1.told j2.told j3.told heads.journal_gained w.journal_gained ends.journal_gained)
     (told-later j2.told j3.told (codes "end\n") _ (IsShowing a.rails a.budget a.parts r (journal_text j)) ends.journal_gained
-    (λ shown. record { journal = j; is = is-journal a s.blocks s.all h s.answers s.bounds; text = refl; shown = shown }) s.shown) in
+    (λ both. record { journal = j; is = is-journal a s.blocks s.all h s.answers s.bounds; text = refl; shown = both.0; audited = both.1 })
+    (told-pair j2.told (All (IsShownIn a.rails a.budget a.parts s.all) s.blocks) (AreRight (basis_of a) s.all) s.shown w.right)) in
     record {
       bytes = report_text r;
       told = named.0;
-      minima = record {
+      answers = record {
         report = r;
         is = is-report a output s.blocks s.all h s.outputs_are s.named s.answers s.bounds;
         text = refl;
@@ -509,12 +575,12 @@ stands-shown a all pending bytes block front h = record {
   stands = front-trans (front_text Two a.rails (h.before ++ Answered block ∷ [])) (front_text Two a.rails all) bytes (front-shown a all block h) front;
 }
 
-minima-begun : (a : Asked) (output : Option ℕ) (first last : List ℕ) (old now : Option (List ℕ)) (s : Settled a first now) (left : List BlockParts) (pending : List Part) (bytes written : List ℕ) → IsAskedOf a
+answers-begun : (a : Asked) (output : Option ℕ) (first last : List ℕ) (old now : Option (List ℕ)) (s : Settled a first now) (left : List BlockParts) (pending : List Part) (bytes written : List ℕ) → IsAskedOf a
     → IsLeft a last left pending → first ++ last ≡ chosen_outputs output a.parts.outputs
     → IsFront bytes (report_text (report-of a (s.blocks ++ left))) → (left ≡ []) ⊎ (length bytes ≤ length (report.head_text Two a.rails a.parts.input_names ++ blocks_text Two s.blocks))
     → Gains old now written → IsFront written (journal_text (journal-of a (s.all ++ pending))) → (s.blocks ≡ []) ⊎ IsFront (front_text Two a.rails s.all) written
-    → (told : Option (List ℕ)) × GainsTold old now told × BeginMinima a.rails a.budget output a.parts bytes told
-minima-begun a output first last old now s left pending bytes written h l whole front short gained begun stands =
+    → (told : Option (List ℕ)) × GainsTold old now told × BeginAnswers a.sought a.rails a.budget output a.parts bytes told
+answers-begun a output first last old now s left pending bytes written h l whole front short gained begun stands =
     let named = told-named old now written (BeginsShowing a.rails a.budget a.parts r bytes) gained (told-later now now [] _ (BeginsShowing a.rails a.budget a.parts r bytes written) (Gains-none now) showing s.shown) in (
       named.0,
       named.1,
@@ -522,7 +588,7 @@ minima-begun a output first last old now s left pending bytes written h l whole 
         report = r;
         is = is-report a output (s.blocks ++ left) (s.all ++ pending) h outputs (All-append (IsNamed a.parts) s.blocks left s.named l.named) answers bounds;
         front = front;
-        held = λ block w. let e = settled-stands a s.blocks left bytes short block w in all-at (IsHeld a.rails a.parts) e.0 e.1 block (subst (All (IsHeld a.rails a.parts)) e.2 s.held);
+        held = λ block w. let e = settled-stands a s.blocks left bytes short block w in all-at (IsHeld a.sought a.rails a.budget a.parts) e.0 e.1 block (subst (All (IsHeld a.sought a.rails a.budget a.parts)) e.2 s.held);
         shown = named.2;
       },
     ) where
@@ -579,7 +645,7 @@ journal-front a all pending tail f =
     (codes "end\n", refl))
 
 pub heads-stopped : (a : Asked) (output : Option ℕ) (fault : WorkFault) (o0 o1 j0 j1 : Device) → IsAskedOf a → IsThere output a.parts.outputs → StoppedHeads a.rails a.parts.input_names fault (between o0 o1) (between j0 j1)
-    → StoppedMinima a output fault (between o0 o1) (between j0 j1)
+    → StoppedAnswers a output fault (between o0 o1) (between j0 j1)
 unfolding settled-none
 heads-stopped a output fault o0 o1 j0 j1 h there st =
     let outputs = chosen_outputs output a.parts.outputs in
@@ -589,7 +655,7 @@ heads-stopped a output fault o0 o1 j0 j1 h there st =
     let lines = text.head_text Two a.rails in
     let fits : length st.out_front.front ≤ length head = front-length st.out_front.front head (st.out_front.rest, st.out_front.whole) in
     let same : length (head ++ []) ≡ length head = ap length (append-nil head) in
-    let r = minima-begun a output [] outputs j0.told j1.told (settled-none a j1.told) blocks parts st.out_front.front st.journal_front.front h (made-left a outputs h (chosen-below output a.parts.outputs there)) refl
+    let r = answers-begun a output [] outputs j0.told j1.told (settled-none a j1.told) blocks parts st.out_front.front st.journal_front.front h (made-left a outputs h (chosen-below output a.parts.outputs there)) refl
     (front-trans st.out_front.front head (report_text (report-of a ([] ++ blocks))) (st.out_front.rest, st.out_front.whole)
     (subst (λ w. IsFront w (report_text (report-of a ([] ++ blocks)))) (append-nil head) (report-front a [] blocks [] ([], refl))))
     (inr (omega (arith, fits, same)))
@@ -600,14 +666,14 @@ heads-stopped a output fault o0 o1 j0 j1 h there st =
     record { bytes = st.out_front.front; told = r.0; begins = r.2; out_gained = st.out_front.gained; journal_gained = r.1; later = st.later; cause = st.cause }
 
 pub blocks-stopped : (a : Asked) (output : Option ℕ) (fault : WorkFault) (o0 o1 o2 j0 j1 j2 : Device) → IsAskedOf a → WroteHeads a.rails a.parts.input_names (between o0 o1) (between j0 j1)
-    → StoppedBlocks a (chosen_outputs output a.parts.outputs) fault (between o1 o2) (between j1 j2) → StoppedMinima a output fault (between o0 o2) (between j0 j2)
+    → StoppedBlocks a (chosen_outputs output a.parts.outputs) fault (between o1 o2) (between j1 j2) → StoppedAnswers a output fault (between o0 o2) (between j0 j2)
 blocks-stopped a output fault o0 o1 o2 j0 j1 j2 h heads st =
     let s = st.settled in
     let head = report.head_text Two a.rails a.parts.input_names in
     let lines = text.head_text Two a.rails in
     let front : IsFront st.front.front (blocks_text Two s.blocks) = (st.front.rest, st.front.whole) in
     let written = lines ++ (parts_text Two s.all ++ st.tail) in
-    let r = minima-begun a output st.first st.last j0.told j2.told s st.left st.pending (head ++ st.front.front) written h st.is_left (sym st.whole)
+    let r = answers-begun a output st.first st.last j0.told j2.told s st.left st.pending (head ++ st.front.front) written h st.is_left (sym st.whole)
     (report-front a s.blocks st.left st.front.front front)
     (inr (front-length (head ++ st.front.front) (head ++ blocks_text Two s.blocks) (front-behind head st.front.front (blocks_text Two s.blocks) front)))
     (Gains-append j0.told j1.told j2.told lines (parts_text Two s.all ++ st.tail) heads.journal_gained st.gained)
@@ -639,7 +705,7 @@ journal-ended a all end f =
     (subst (IsFront (front_text Two a.rails all ++ end)) (sym (journal_text-is Two a.rails all)) (front-behind (front_text Two a.rails all) end (codes "end\n") f))
 
 pub ends-stopped : (a : Asked) (output : Option ℕ) (d : Decision) (fault : WorkFault) (o0 o1 o2 o3 j0 j1 j2 j3 : Device) → IsAskedOf a → WroteHeads a.rails a.parts.input_names (between o0 o1) (between j0 j1)
-    → WroteBlocks a (chosen_outputs output a.parts.outputs) d (between o1 o2) (between j1 j2) → StoppedEnds fault (between o2 o3) (between j2 j3) → StoppedMinima a output fault (between o0 o3) (between j0 j3)
+    → WroteBlocks a (chosen_outputs output a.parts.outputs) d (between o1 o2) (between j1 j2) → StoppedEnds fault (between o2 o3) (between j2 j3) → StoppedAnswers a output fault (between o0 o3) (between j0 j3)
 unfolding settled-later
 ends-stopped a output d fault o0 o1 o2 o3 j0 j1 j2 j3 h heads w st =
     let outputs = chosen_outputs output a.parts.outputs in
@@ -649,7 +715,7 @@ ends-stopped a output d fault o0 o1 o2 o3 j0 j1 j2 j3 h heads w st =
     let bytes = head ++ (blocks_text Two s.blocks ++ st.out_front.front) in
     let parts : Gains j0.told j2.told (front_text Two a.rails s.all) =
     subst (Gains j0.told j2.told) (sym (front_text-is Two a.rails s.all)) (Gains-append j0.told j1.told j2.told lines (parts_text Two s.all) heads.journal_gained w.journal_gained) in
-    let r = minima-begun a output outputs [] j0.told j3.told s [] [] bytes (front_text Two a.rails s.all ++ st.journal_front.front) h (made-none a) (append-nil outputs)
+    let r = answers-begun a output outputs [] j0.told j3.told s [] [] bytes (front_text Two a.rails s.all ++ st.journal_front.front) h (made-none a) (append-nil outputs)
     (report-ended a s.blocks st.out_front.front (st.out_front.rest, st.out_front.whole)) (inl refl)
     (Gains-append j0.told j2.told j3.told (front_text Two a.rails s.all) st.journal_front.front parts st.journal_front.gained)
     (journal-ended a s.all st.journal_front.front (st.journal_front.rest, st.journal_front.whole))
@@ -688,12 +754,12 @@ from-more first k p =
 pub outputs-none : (a : Asked) (first : ℕ) (o j : Device) → WroteBlocks a (range_with_len first (first - first)) Decided (between o o) (between j j)
 outputs-none a first o j = subst (λ (ks : List ℕ). WroteBlocks a ks Decided (between o o) (between j j)) (sym (from-none first)) (wrote-none a o j)
 
-pub outputs-more : (a : Asked) (first k : ℕ) (d e f : Decision) (o0 o1 o2 j0 j1 j2 : Device) → first ≤ k → is_open f ≡ (is_open d || is_open e)
+pub outputs-more : (law : AddsRight) (a : Asked) (first k : ℕ) (d e f : Decision) (o0 o1 o2 j0 j1 j2 : Device) → IsPla a.parts → first ≤ k → is_open f ≡ (is_open d || is_open e)
     → WroteBlocks a (range_with_len first (k - first)) d (between o0 o1) (between j0 j1) → WroteOutput a k e (between o1 o2) (between j1 j2)
     → WroteBlocks a (range_with_len first (k + 1 - first)) f (between o0 o2) (between j0 j2)
-outputs-more a first k d e f o0 o1 o2 j0 j1 j2 p joined w now =
+outputs-more law a first k d e f o0 o1 o2 j0 j1 j2 pla p joined w now =
     subst (λ (ks : List ℕ). WroteBlocks a ks f (between o0 o2) (between j0 j2)) (sym (from-more first k p))
-    (wrote-more a (range_with_len first (k - first)) k d e f o0 o1 o2 j0 j1 j2 (range-without first (k - first) k (omega (arith, p))) joined w now)
+    (wrote-more law a (range_with_len first (k - first)) k d e f o0 o1 o2 j0 j1 j2 pla (range-below first (k - first) k (omega (arith, p))) (range-without first (k - first) k (omega (arith, p))) joined w now)
 
 pub outputs-stopped : (a : Asked) (first k end : ℕ) (d : Decision) (fault : WorkFault) (o0 o1 o2 j0 j1 j2 : Device) → IsAskedOf a → first ≤ k → k < end → end ≤ a.parts.outputs
     → WroteBlocks a (range_with_len first (k - first)) d (between o0 o1) (between j0 j1) → StoppedOutput a k fault (between o1 o2) (between j1 j2)

@@ -10,7 +10,7 @@ use Rattle.std.proofs.lemmas.Slice.Eq.{bytes_eq-Decides}
 use Rattle.clap.specs.Matches.{ReadsOne, found_of, one_text}
 use Rattle.clap.specs.declared.parser.matches.ArgMatches.{ArgMatches}
 use Rattle.four_lattice.specs.declared.words.Verb.{Verb}
-use Rattle.four_lattice.specs.declared.words.Verb.TheVariants.{Pairs, Dual, Cnf, Verify, Check, Audit, Synth}
+use Rattle.four_lattice.specs.declared.words.Verb.TheVariants.{Pairs, Dual, Cnf, Verify, Check, Audit, Synth, Map, Renew}
 use Rattle.four_lattice.specs.Words.{Given, Row, Setting, is_within, given_of, row_of, is_number, is_plain, may_give, number_given}
 use Rattle.four_lattice.specs.WordsParts.{Shows, is_option, is_small, is_spelled, is_table, option_names}
 use Rattle.four_lattice.proofs.WordsNumbers.{all_digits, number_digits, number_plain_sign}
@@ -119,7 +119,9 @@ row_is_table Cnf = refl
 row_is_table Verify = refl
 row_is_table Check = refl
 row_is_table Audit = refl
+row_is_table Renew = refl
 row_is_table Synth = refl
+row_is_table Map = refl
 
 -- what is shown of something that was given is shown of what was given
 pub shown-all : {X Y : Type 0} (o : Option X) (P : X → Type 0) (f : X → Y) (y : Y) → IsSomeAnd o P → ((x : X) → P x → y ≡ f x) → option_map f o ≡ Some y

@@ -5,6 +5,8 @@ use Rattle.audit_core.specs.declared.refusal.AuditRefusal.{AuditRefusal}
 use Rattle.audit_core.specs.declared.refusal.AuditRefusal.TheVariants as audit
 use Rattle.clause_core.specs.declared.refusal.CnfRefusal.{CnfRefusal}
 use Rattle.clause_core.specs.declared.refusal.CnfRefusal.TheVariants as cnf
+use Rattle.defect_array.specs.declared.read.ArrayRefusal.{ArrayRefusal}
+use Rattle.defect_array.specs.declared.read.ArrayRefusal.TheVariants as array
 use Rattle.journal_text.specs.declared.refusal.JournalRefusal.{JournalRefusal}
 use Rattle.journal_text.specs.declared.refusal.JournalRefusal.TheVariants as journal
 use Rattle.lrat_replay.specs.declared.fault.StepFault.{StepFault}
@@ -22,7 +24,7 @@ use Rattle.four_lattice.specs.declared.notes.Spot.TheVariants.{Nowhere, At, Assi
 use Rattle.four_lattice.specs.declared.status.Status.{Status}
 use Rattle.four_lattice.specs.declared.status.Status.TheVariants as status
 use Rattle.four_lattice.specs.declared.ending.InputRefusal.{InputRefusal}
-use Rattle.four_lattice.specs.declared.ending.InputRefusal.TheVariants.{Pla, NoSuchOutput, Cnf}
+use Rattle.four_lattice.specs.declared.ending.InputRefusal.TheVariants.{Pla, NoSuchOutput, Cnf, Array}
 use Rattle.four_lattice.specs.declared.ending.SideRefusal.{SideRefusal}
 use Rattle.four_lattice.specs.declared.ending.SideRefusal.TheVariants.{TooLong, Report, Lrat, Journal}
 use Rattle.four_lattice.specs.declared.ending.Unconfirmed.{Unconfirmed}
@@ -104,6 +106,13 @@ cnf_name cnf.TooLong = codes "TooLong"
 cnf_name (cnf.TooLarge line) = codes "TooLarge"
 cnf_name cnf.NoMemory = codes "NoMemory"
 
+abbrev pub array_name : ArrayRefusal → List ℕ
+array_name array.Empty = codes "Empty"
+array_name (array.Ragged line) = codes "Ragged"
+array_name (array.Byte line) = codes "Byte"
+array_name (array.TooLarge line) = codes "TooLarge"
+array_name array.NoMemory = codes "NoMemory"
+
 abbrev pub report_name : ReportRefusal → List ℕ
 report_name (report.Header line) = codes "Header"
 report_name (report.Inputs line) = codes "Inputs"
@@ -184,6 +193,14 @@ cnf_spot cnf.TooLong = Nowhere
 cnf_spot (cnf.TooLarge line) = At line
 cnf_spot cnf.NoMemory = Nowhere
 
+-- where a refusal of an array lies
+abbrev pub array_spot : ArrayRefusal → Spot
+array_spot array.Empty = Nowhere
+array_spot (array.Ragged line) = At line
+array_spot (array.Byte line) = At line
+array_spot (array.TooLarge line) = At line
+array_spot array.NoMemory = Nowhere
+
 -- where a refusal of a report lies
 abbrev pub report_spot : ReportRefusal → Spot
 report_spot (report.Header line) = At line
@@ -235,11 +252,13 @@ abbrev pub input_name : InputRefusal → List ℕ
 input_name (Pla r) = pla_name r
 input_name NoSuchOutput = codes "NoSuchOutput"
 input_name (Cnf r) = cnf_name r
+input_name (Array r) = array_name r
 
 abbrev pub input_spot : InputRefusal → Spot
 input_spot (Pla r) = pla_spot r
 input_spot NoSuchOutput = Nowhere
 input_spot (Cnf r) = cnf_spot r
+input_spot (Array r) = array_spot r
 
 abbrev pub side_name : SideRefusal → List ℕ
 side_name TooLong = codes "TooLong"

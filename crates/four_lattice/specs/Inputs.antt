@@ -1,12 +1,15 @@
 -- What reading the inputs of a command comes to.
-use Rattle.std.specs.Prelude.{◌≡◌}
+use Rattle.std.specs.Prelude.{◌≡◌, ℕ, List}
 use Rattle.clause_core.specs.declared.refusal.CnfRefusal.TheVariants as cnf
+use Rattle.defect_array.specs.Reading.{Refused as IsNoArray}
+use Rattle.defect_array.specs.declared.read.ArrayRefusal.{ArrayRefusal}
 use Rattle.pla_reader.specs.declared.pla.PlaRefusal.TheVariants as pla
 use Rattle.pla_reader.specs.Reading.{Refused}
 use Rattle.four_lattice.specs.Devices.{Change, EndsText}
-use Rattle.four_lattice.specs.Judge.{as_pla, as_cnf, IsCnfRefused, IsLratRefused, IsReportRefused, IsJournalRefused}
+use Rattle.four_lattice.specs.Judge.{as_pla, as_cnf, as_array, IsCnfRefused, IsLratRefused, IsReportRefused, IsJournalRefused}
 use Rattle.four_lattice.specs.Uses.{most_pla_bytes, most_cnf_bytes, most_side_bytes}
 use Rattle.four_lattice.specs.declared.ending.SideRefusal.TheVariants.{TooLong}
+use Rattle.four_lattice.specs.declared.ending.Refusal.{Refusal}
 use Rattle.four_lattice.specs.declared.ending.Refusal.TheVariants.{Side}
 use Rattle.four_lattice.specs.declared.ending.Ending.{Ending}
 
@@ -29,3 +32,7 @@ EndsReport = EndsText Side (λ r. r ≡ TooLong) IsReportRefused most_side_bytes
 -- Why no journal was read of the side file.
 abbrev pub EndsJournal : Ending → Change → Type 0
 EndsJournal = EndsText Side (λ r. r ≡ TooLong) IsJournalRefused most_side_bytes
+
+-- The bytes behind a PLA are refused as an array.
+abbrev pub RefusesArray : List ℕ → Refusal → Type 0
+RefusesArray bytes refusal = (r : ArrayRefusal) × IsNoArray bytes r × (refusal ≡ as_array r)

@@ -1,5 +1,5 @@
 -- What the inputs of a command come to: a refusal, or a task that is theirs alone.
-use Rattle.std.specs.Prelude.{◌≡◌, ◌⊎◌, ℕ, ◌<◌, ◌≤◌, true, false, List, length, Ok, Err, Some, None, slice_get, IfSome}
+use Rattle.std.specs.Prelude.{◌≡◌, ◌⊎◌, ℕ, ◌<◌, ◌≤◌, true, false, List, length, drop, Ok, Err, Some, None, slice_get, IfSome}
 use Rattle.std.specs.declared.option.Option.{Option}
 use Rattle.audit_core.specs.Audit.{Audited}
 use Rattle.audit_core.specs.declared.refusal.AuditRefusal.{AuditRefusal}
@@ -7,6 +7,9 @@ use Rattle.clause_core.specs.Formula.{Formula}
 use Rattle.clause_core.specs.CnfRead.{cnf_of}
 use Rattle.clause_core.specs.declared.refusal.CnfRefusal.{CnfRefusal}
 use Rattle.cube_core.specs.Function.{Function}
+use Rattle.defect_array.specs.Reading.{Reads as ReadsArray, Refused as IsNoArray}
+use Rattle.defect_array.specs.declared.read.ArrayRefusal.{ArrayRefusal}
+use Rattle.lattice_grid.specs.Defects.{Defects}
 use Rattle.journal_text.specs.Parts.{JournalParts}
 use Rattle.journal_text.specs.Reading.{Gives as GivesJournal, IsRefused as IsNoJournal}
 use Rattle.lattice_grid.specs.Rectangle.{Size}
@@ -26,7 +29,7 @@ use Rattle.four_lattice.specs.Uses.{most_side_bytes}
 use Rattle.four_lattice.specs.Verified.{IsVerified, IsDenied}
 use Rattle.four_lattice.specs.declared.lattices.Construction.{Construction}
 use Rattle.four_lattice.specs.declared.lattices.Construction.TheVariants as construction
-use Rattle.four_lattice.specs.declared.ending.InputRefusal.TheVariants.{Pla, NoSuchOutput, Cnf}
+use Rattle.four_lattice.specs.declared.ending.InputRefusal.TheVariants.{Pla, NoSuchOutput, Cnf, Array}
 use Rattle.four_lattice.specs.declared.ending.SideRefusal.{SideRefusal}
 use Rattle.four_lattice.specs.declared.ending.SideRefusal.TheVariants.{TooLong, Report, Lrat, Journal}
 use Rattle.four_lattice.specs.declared.ending.Unconfirmed.TheVariants.{Denied, Step, Unfinished, Unaudited}
@@ -48,7 +51,9 @@ pub data Task : Type 0 where
   Realised : ReportParts → Task
   Refuted : Task
   Confirmed : JournalParts → Task
+  Renewed : Parts → JournalParts → Task
   Minima : (rails budget : ℕ) → Option ℕ → Parts → Task
+  Placed : (budget output : ℕ) → Defects → Parts → Task
 
 pub data Judgement : Type 0 where
   Refused : Refusal → Judgement
@@ -65,6 +70,10 @@ Stage X Refuses Gives next j = ((refusal : Refusal) × Refuses refusal × (j ≡
 -- Something refuses; or it holds, and this is the task.
 abbrev pub Last : (Refusal → Type 0) → Type 0 → Task → Judgement → Type 0
 Last Refuses Holds task j = ((refusal : Refusal) × Refuses refusal × (j ≡ Refused refusal)) ⊎ (Holds × (j ≡ Accepted task))
+
+-- Something refuses; or it holds, and the rest follows.
+abbrev pub Test : (Refusal → Type 0) → Type 0 → (Judgement → Type 0) → Judgement → Type 0
+Test Refuses Holds next j = ((refusal : Refusal) × Refuses refusal × (j ≡ Refused refusal)) ⊎ (Holds × next j)
 
 -- A text is refused, and so the job.
 abbrev pub TextRefuses : {R : Type 0} → OfTold → Option (List ℕ) → (R → Refusal) → (List ℕ → R → Type 0) → Refusal → Type 0
@@ -92,6 +101,19 @@ CnfRefuses Of x = TextRefuses Of x.pla as_cnf IsCnfRefused
 
 abbrev pub CnfGives : OfTold → Texts → Formula → Type 0
 CnfGives Of x formula = Of x.pla (λ bytes. cnf_of bytes ≡ Ok formula)
+
+-- the text of an array: what follows the line that ends the PLA
+abbrev pub as_array : ArrayRefusal → Refusal
+as_array r = Input (Array r)
+
+abbrev pub IsArrayRefused : Parts → List ℕ → ArrayRefusal → Type 0
+IsArrayRefused parts bytes r = IsNoArray (drop parts.rest bytes) r
+
+abbrev pub ArrayRefuses : OfTold → Texts → Parts → Refusal → Type 0
+ArrayRefuses Of x parts = TextRefuses Of x.pla as_array (IsArrayRefused parts)
+
+abbrev pub ArrayGives : OfTold → Texts → Parts → Defects → Type 0
+ArrayGives Of x parts a = Of x.pla (λ bytes. ReadsArray (drop parts.rest bytes) a)
 
 -- a side file with the lines of a proof
 abbrev pub IsLratRefused : List ℕ → SideRefusal → Type 0
@@ -182,12 +204,20 @@ CheckComes Of x =
     Stage (List Line) (LratRefuses Of x) (LratGives Of x) (λ lines.
     Last (LinesRefuse Of x formula lines) (IsAccepted formula lines × (adds_empty formula lines ≡ true)) Refuted))
 
--- A journal tested against a PLA.
-abbrev pub AuditComes : OfTold → Texts → Judgement → Type 0
-AuditComes Of x =
+-- A journal tested against a PLA, and what is left to do where it is right.
+abbrev pub JournalComes : OfTold → (Parts → JournalParts → Task) → Texts → Judgement → Type 0
+JournalComes Of task x =
     Stage Parts (PlaRefuses Of x) (PlaGives Of x) (λ parts.
     Stage JournalParts (JournalRefuses Of x) (JournalGives Of x) (λ journal.
-    Last (Unconfirms parts journal) (Audited parts journal) (Confirmed journal)))
+    Last (Unconfirms parts journal) (Audited parts journal) (task parts journal)))
+
+-- its answers are counted
+abbrev pub AuditComes : OfTold → Texts → Judgement → Type 0
+AuditComes Of x = JournalComes Of (λ parts journal. Confirmed journal) x
+
+-- it is made anew
+abbrev pub RenewComes : OfTold → Texts → Judgement → Type 0
+RenewComes Of x = JournalComes Of Renewed x
 
 -- Lattices of least area over rails of the chosen outputs of a PLA, with at most so many conflicts for a question.
 abbrev pub SynthComes : OfTold → ℕ → ℕ → Option ℕ → Texts → Judgement → Type 0
@@ -195,7 +225,14 @@ SynthComes Of rails budget output x =
     Stage Parts (PlaRefuses Of x) (PlaGives Of x) (λ parts.
     Last (LacksOutput output parts) (IsThere output parts.outputs) (Minima rails budget output parts))
 
--- What the texts of a job come to: the standard input first, the chosen output, the side file, then what is tested of it.
+-- A lattice for an output of a PLA on the array that follows it, with at most so many conflicts.
+abbrev pub MapComes : OfTold → ℕ → ℕ → Texts → Judgement → Type 0
+MapComes Of budget output x =
+    Stage Parts (PlaRefuses Of x) (PlaGives Of x) (λ parts.
+    Test (LacksOutput (Some output) parts) (IsThere (Some output) parts.outputs)
+    (Stage Defects (ArrayRefuses Of x parts) (ArrayGives Of x parts) (λ a j. j ≡ Accepted (Placed budget output a parts))))
+
+-- What the texts of a job come to: the standard input first, the chosen output, the array, the side file, then what is tested of it.
 abbrev pub JobComes : OfTold → Job → Texts → Judgement → Type 0
 JobComes Of (job.Pairs output) x = LatticesCome Of construction.Pairs output x
 JobComes Of (job.Dual output) x = LatticesCome Of construction.Dual output x
@@ -203,7 +240,9 @@ JobComes Of (job.Cnf output size) x = EncodingComes Of output size x
 JobComes Of job.Verify x = VerifyComes Of x
 JobComes Of job.Check x = CheckComes Of x
 JobComes Of job.Audit x = AuditComes Of x
+JobComes Of job.Renew x = RenewComes Of x
 JobComes Of (job.Synth conflicts output rails) x = SynthComes Of rails conflicts output x
+JobComes Of (job.Map conflicts output) x = MapComes Of conflicts output x
 
 -- What words and texts come to. Words that ask for no job are refused.
 abbrev pub Comes : OfTold → Option Job → Texts → Judgement → Type 0
@@ -219,7 +258,9 @@ Opens (Some (job.Cnf output size)) x = ⊥
 Opens (Some job.Verify) x = (parts : Parts) × PlaGives IfSome x parts
 Opens (Some job.Check) x = (formula : Formula) × CnfGives IfSome x formula
 Opens (Some job.Audit) x = (parts : Parts) × PlaGives IfSome x parts
+Opens (Some job.Renew) x = (parts : Parts) × PlaGives IfSome x parts
 Opens (Some (job.Synth conflicts output rails)) x = ⊥
+Opens (Some (job.Map conflicts output)) x = ⊥
 
 -- The inputs are accepted.
 abbrev pub IsGranted : (Judgement → Type 0) → Type 0

@@ -1,8 +1,11 @@
--- What the parts of `synth` write, for the crate's own proofs.
+-- What the parts of `synth` and `map` write, for the crate's own proofs.
 use Rattle.std.specs.Prelude.{◌≡◌, ◌⊎◌, ℕ, ◌≤◌, Bool, true, false, List, [], ◌∷◌, ◌++◌, All, map, IfSome, slice_get, Some, codes}
 use Rattle.std.specs.List.{Contains, list_any}
 use Rattle.std.specs.declared.option.Option.{Option}
 use Rattle.cube_core.specs.Function.{Function}
+use Rattle.defect_array.specs.declared.place.PlaceFault.{PlaceFault}
+use Rattle.defect_array.specs.declared.place.PlaceFault.TheVariants as placed
+use Rattle.lattice_grid.specs.Defects.{Defects}
 use Rattle.pla_reader.specs.Parts.{Parts}
 use Rattle.report_text.specs.declared.answer.Version.TheVariants.{Two}
 use Rattle.report_text.specs.Bounds.{IsBlock}
@@ -13,12 +16,13 @@ use Rattle.journal_text.specs.Bounds.{IsPart, MayStand}
 use Rattle.journal_text.specs.Parts.{Section, Part, Question, Answered}
 use Rattle.journal_text.specs.Text as text
 use Rattle.journal_text.specs.Text.{parts_text}
+use Rattle.audit_core.specs.Audit.{Basis, AreRight}
 use Rattle.area_search.specs.Answer.{HoldsOfLattices}
 use Rattle.lattice_question.specs.Written.{IsSectionOf, HasNoSection, IsShown}
 use Rattle.area_search.specs.declared.fault.SearchFault.{SearchFault}
 use Rattle.area_search.specs.declared.fault.SearchFault.TheVariants as searched
 use Rattle.four_lattice.specs.Devices.{Change, Failed, GainsTold}
-use Rattle.four_lattice.specs.Synth.{IsNamed, IsHeld, IsShownIn, AreMinima, BeginMinima, answers_of, is_undecided, IsFront}
+use Rattle.four_lattice.specs.Synth.{Sought, Least, OnArray, Holds, IsNamed, IsHeld, IsShownIn, AreAnswers, BeginAnswers, answers_of, is_undecided, IsFront}
 use Rattle.four_lattice.specs.declared.ending.Ending.{Ending}
 use Rattle.four_lattice.specs.declared.ending.Ending.TheVariants as ending
 use Rattle.four_lattice.specs.declared.lattices.WorkFault.{WorkFault}
@@ -26,14 +30,23 @@ use Rattle.four_lattice.specs.declared.lattices.WorkFault.TheVariants.{Write, No
 use Rattle.four_lattice.specs.declared.synth.Decision.{Decision}
 use Rattle.four_lattice.specs.declared.synth.Decision.TheVariants.{Decided, Undecided}
 
--- the rails, the most conflicts for a question, and the PLA
+-- what is sought, the rails, the most conflicts for a question, and the PLA
 pub record Asked : Type 0 where
+  pub sought : Sought
   pub rails : ℕ
   pub budget : ℕ
   pub parts : Parts
 
 abbrev pub asked : ℕ → ℕ → Parts → Asked
-asked rails budget parts = record { rails = rails; budget = budget; parts = parts }
+asked rails budget parts = record { sought = Least; rails = rails; budget = budget; parts = parts }
+
+-- on an array all literals are allowed
+abbrev pub asked_on : Defects → ℕ → Parts → Asked
+asked_on a budget parts = record { sought = OnArray a; rails = 1048575; budget = budget; parts = parts }
+
+-- what the parts of its journal are tested against
+abbrev pub basis_of : Asked → Basis
+basis_of a = record { parts = a.parts; version = Two; rails = a.rails }
 
 -- whether an answer is undecided
 abbrev pub is_open : Decision → Bool
@@ -41,9 +54,9 @@ is_open Decided = false
 is_open Undecided = true
 
 -- a fault of writing comes only where one of the sinks failed
-abbrev pub HasSynthCause : WorkFault → Change → Change → Type 0
-HasSynthCause Write out journal = Failed out ⊎ Failed journal
-HasSynthCause NoMemory out journal = Unit {0}
+abbrev pub HasSinkCause : WorkFault → Change → Change → Type 0
+HasSinkCause Write out journal = Failed out ⊎ Failed journal
+HasSinkCause NoMemory out journal = Unit {0}
 
 -- no count of faults fell
 pub record BothLater (out journal : Change) : Type 0 where
@@ -64,7 +77,7 @@ pub record AnswersOutput (a : Asked) (output : ℕ) (block : BlockParts) (journa
   pub of : IsBlockOf a output block
   pub function : Function
   pub of_output : slice_get a.parts.functions output ≡ Some function
-  pub holds : HoldsOfLattices a.rails function block.answer
+  pub holds : Holds a.sought a.rails a.budget function block.answer
   pub more : List Part
   pub sections : All (IsSectionOf output) more
   pub gained : Gains journal.old.told journal.new.told (parts_text Two (more ++ Answered block ∷ []))
@@ -92,7 +105,7 @@ pub record StoppedOutput (a : Asked) (output : ℕ) (fault : WorkFault) (out jou
   pub where_it_stopped : (CutsOutput a output journal × (out.new.told ≡ out.old.told))
       ⊎ ((block : BlockParts) × AnswersOutput a output block journal × GainsFront out.old.told out.new.told (block_text Two block))
   pub later : BothLater out journal
-  pub cause : HasSynthCause fault out journal
+  pub cause : HasSinkCause fault out journal
 
 -- ---- outputs in order
 
@@ -102,7 +115,7 @@ pub record Settled (a : Asked) (outputs : List ℕ) (told : Option (List ℕ)) :
   pub all : List Part
   pub outputs_are : map (λ block. block.output) blocks ≡ outputs
   pub named : All (IsNamed a.parts) blocks
-  pub held : All (IsHeld a.rails a.parts) blocks
+  pub held : All (IsHeld a.sought a.rails a.budget a.parts) blocks
   pub answers : answers_of all ≡ blocks
   pub bounds : All (IsPart Two) all
   pub sections : (s : Section) → Contains all (Question s) → Contains outputs s.output
@@ -115,9 +128,10 @@ pub record IsLeft (a : Asked) (outputs : List ℕ) (blocks : List BlockParts) (p
   pub answers : answers_of pending ≡ blocks
   pub bounds : All (IsPart Two) pending
 
--- The blocks of the outputs were written, and the parts that show them.
+-- The blocks of the outputs were written, and the parts that show them, which are right.
 pub record WroteBlocks (a : Asked) (outputs : List ℕ) (decision : Decision) (out journal : Change) : Type 0 where
   pub settled : Settled a outputs journal.new.told
+  pub right : IfSome journal.new.told (λ _. AreRight (basis_of a) settled.all)
   pub decided : is_open decision ≡ list_any (λ block. is_undecided block.answer) settled.blocks
   pub out_gained : Gains out.old.told out.new.told (blocks_text Two settled.blocks)
   pub journal_gained : Gains journal.old.told journal.new.told (parts_text Two settled.all)
@@ -137,7 +151,7 @@ pub record StoppedBlocks (a : Asked) (outputs : List ℕ) (fault : WorkFault) (o
   pub tail_front : IsFront tail (parts_text Two pending)
   pub gained : Gains journal.old.told journal.new.told (parts_text Two settled.all ++ tail)
   pub later : BothLater out journal
-  pub cause : HasSynthCause fault out journal
+  pub cause : HasSinkCause fault out journal
 
 -- ---- the whole
 
@@ -152,7 +166,7 @@ pub record StoppedHeads (rails : ℕ) (names : List (List ℕ)) (fault : WorkFau
   pub out_front : GainsFront out.old.told out.new.told (report.head_text Two rails names)
   pub journal_front : GainsFront journal.old.told journal.new.told (text.head_text Two rails)
   pub later : BothLater out journal
-  pub cause : HasSynthCause fault out journal
+  pub cause : HasSinkCause fault out journal
 
 -- The last lines were written.
 pub record WroteEnds (out journal : Change) : Type 0 where
@@ -165,26 +179,26 @@ pub record StoppedEnds (fault : WorkFault) (out journal : Change) : Type 0 where
   pub out_front : GainsFront out.old.told out.new.told (codes "end\n")
   pub journal_front : GainsFront journal.old.told journal.new.told (codes "end\n")
   pub later : BothLater out journal
-  pub cause : HasSynthCause fault out journal
+  pub cause : HasSinkCause fault out journal
 
 -- The report and the journal were written.
-pub record WroteMinima (a : Asked) (output : Option ℕ) (decision : Decision) (out journal : Change) : Type 0 where
+pub record WroteAnswers (a : Asked) (output : Option ℕ) (decision : Decision) (out journal : Change) : Type 0 where
   pub bytes : List ℕ
   pub told : Option (List ℕ)
-  pub minima : AreMinima a.rails a.budget output a.parts bytes told (is_open decision)
+  pub answers : AreAnswers a.sought a.rails a.budget output a.parts bytes told (is_open decision)
   pub out_gained : Gains out.old.told out.new.told bytes
   pub journal_gained : GainsTold journal.old.told journal.new.told told
   pub later : BothLater out journal
 
 -- Fronts of them were written.
-pub record StoppedMinima (a : Asked) (output : Option ℕ) (fault : WorkFault) (out journal : Change) : Type 0 where
+pub record StoppedAnswers (a : Asked) (output : Option ℕ) (fault : WorkFault) (out journal : Change) : Type 0 where
   pub bytes : List ℕ
   pub told : Option (List ℕ)
-  pub begins : BeginMinima a.rails a.budget output a.parts bytes told
+  pub begins : BeginAnswers a.sought a.rails a.budget output a.parts bytes told
   pub out_gained : Gains out.old.told out.new.told bytes
   pub journal_gained : GainsTold journal.old.told journal.new.told told
   pub later : BothLater out journal
-  pub cause : HasSynthCause fault out journal
+  pub cause : HasSinkCause fault out journal
 
 -- how a run ends whose work was done
 abbrev pub decision_ending : Decision → Ending
@@ -195,3 +209,8 @@ decision_ending Undecided = ending.Undecided
 abbrev pub fault_of_search : SearchFault → WorkFault
 fault_of_search searched.Sink = Write
 fault_of_search searched.NoMemory = NoMemory
+
+-- what stops a command whose placing stopped so
+abbrev pub fault_of_place : PlaceFault → WorkFault
+fault_of_place placed.Sink = Write
+fault_of_place placed.NoMemory = NoMemory

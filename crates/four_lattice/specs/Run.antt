@@ -16,7 +16,7 @@ use Rattle.four_lattice.specs.declared.words.Job.{Job}
 use Rattle.four_lattice.specs.declared.status.Status.{Status}
 use Rattle.four_lattice.specs.declared.status.Status.TheVariants as status
 use Rattle.four_lattice.specs.declared.ending.InputRefusal.{InputRefusal}
-use Rattle.four_lattice.specs.declared.ending.InputRefusal.TheVariants.{Pla, NoSuchOutput, Cnf}
+use Rattle.four_lattice.specs.declared.ending.InputRefusal.TheVariants.{Pla, NoSuchOutput, Cnf, Array}
 use Rattle.four_lattice.specs.declared.ending.SideRefusal.{SideRefusal}
 use Rattle.four_lattice.specs.declared.ending.SideRefusal.TheVariants.{TooLong}
 use Rattle.four_lattice.specs.declared.ending.Refusal.{Refusal}
@@ -88,6 +88,7 @@ abbrev pub IsInputRead : ℕ → InputRefusal → Change → Type 0
 IsInputRead most (Pla refusal) c = IsReadFor (refusal ≡ pla.TooLong) most c
 IsInputRead most (Cnf refusal) c = IsReadFor (refusal ≡ cnf.TooLong) most c
 IsInputRead most NoSuchOutput c = IsSpent c.new.told
+IsInputRead most (Array refusal) c = IsSpent c.new.told
 
 abbrev pub IsSideRead : SideRefusal → Change → Type 0
 IsSideRead refusal c = IsReadFor (refusal ≡ TooLong) most_side_bytes c

@@ -2,7 +2,7 @@
 use Rattle.std.specs.Prelude.{ℕ, Bool, true, false, None, Some}
 use Rattle.std.specs.declared.option.Option.{Option}
 use Rattle.four_lattice.specs.declared.words.Job.{Job}
-use Rattle.four_lattice.specs.declared.words.Job.TheVariants.{Pairs, Dual, Cnf, Verify, Check, Audit, Synth}
+use Rattle.four_lattice.specs.declared.words.Job.TheVariants.{Pairs, Dual, Cnf, Verify, Check, Audit, Synth, Map, Renew}
 
 -- whether the standard input is read, and the side file, whether a journal is written, and finders are asked
 pub record Uses : Type 0 where
@@ -23,6 +23,9 @@ pla_and_side = record { pla = true; side = true; journal = false; finders = fals
 abbrev pub pla_journal_and_finders : Uses
 pla_journal_and_finders = record { pla = true; side = false; journal = true; finders = true }
 
+abbrev pub pla_and_journal : Uses
+pla_and_journal = record { pla = true; side = false; journal = true; finders = false }
+
 -- the table of devices
 abbrev pub uses_of : Job → Uses
 uses_of (Pairs output) = pla_alone
@@ -31,7 +34,9 @@ uses_of (Cnf output size) = pla_alone
 uses_of Verify = pla_and_side
 uses_of Check = pla_and_side
 uses_of Audit = pla_and_side
+uses_of Renew = pla_and_side
 uses_of (Synth conflicts output rails) = pla_journal_and_finders
+uses_of (Map conflicts output) = pla_and_journal
 
 -- words that ask for no job use nothing
 abbrev pub uses : Option Job → Uses
@@ -56,7 +61,9 @@ most_bytes_of (Cnf output size) = most_pla_bytes
 most_bytes_of Verify = most_pla_bytes
 most_bytes_of Check = most_cnf_bytes
 most_bytes_of Audit = most_pla_bytes
+most_bytes_of Renew = most_pla_bytes
 most_bytes_of (Synth conflicts output rails) = most_pla_bytes
+most_bytes_of (Map conflicts output) = most_pla_bytes
 
 abbrev pub most_bytes : Option Job → ℕ
 most_bytes None = 0

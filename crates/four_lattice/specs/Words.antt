@@ -9,7 +9,7 @@ use Rattle.std.specs.Str.Parse.{digits_value}
 use Rattle.four_lattice.specs.declared.words.Job.{Job}
 use Rattle.four_lattice.specs.declared.words.Job.TheVariants as job
 use Rattle.four_lattice.specs.declared.words.Verb.{Verb}
-use Rattle.four_lattice.specs.declared.words.Verb.TheVariants.{Pairs, Dual, Cnf, Verify, Check, Audit, Synth}
+use Rattle.four_lattice.specs.declared.words.Verb.TheVariants.{Pairs, Dual, Cnf, Verify, Check, Audit, Synth, Map, Renew}
 
 -- a plain word is not empty, and does not begin with `-`
 abbrev pub is_plain : List ℕ → Bool
@@ -58,7 +58,9 @@ row_of Cnf = record { options = rows_setting ∷ cols_setting ∷ output_setting
 row_of Verify = record { options = []; wants_file = true }
 row_of Check = record { options = []; wants_file = true }
 row_of Audit = record { options = []; wants_file = true }
+row_of Renew = record { options = []; wants_file = true }
 row_of Synth = record { options = conflicts_setting ∷ output_setting ∷ rails_setting ∷ []; wants_file = true }
+row_of Map = record { options = conflicts_setting ∷ output_setting ∷ []; wants_file = true }
 
 -- the command that a word names
 abbrev pub verb_of : List ℕ → Option Verb
@@ -69,8 +71,10 @@ verb_of word =
     else (if bytes_eq word (codes "verify") then Some Verify
     else (if bytes_eq word (codes "check") then Some Check
     else (if bytes_eq word (codes "audit") then Some Audit
+    else (if bytes_eq word (codes "renew") then Some Renew
     else (if bytes_eq word (codes "synth") then Some Synth
-    else None))))))
+    else (if bytes_eq word (codes "map") then Some Map
+    else None))))))))
 
 -- options that were given, each a name with its number
 abbrev pub Given : Type 0
@@ -110,8 +114,12 @@ size_given (Some rows) (Some cols) = if is_side rows && is_side cols then Some (
 abbrev pub synth_given : ℕ → Option ℕ → ℕ → Option Job
 synth_given conflicts output rails = if nat_le conflicts 200000 && nat_le rails 1048575 then Some (job.Synth conflicts output rails) else None
 
--- the job of a command for which this is given; `cnf` needs rows and columns, and takes output 0 where none is given; `synth` takes 20,000 conflicts
--- and all literals where they are not given
+-- `map` of so many conflicts, where these may be
+abbrev pub map_given : ℕ → ℕ → Option Job
+map_given conflicts output = if nat_le conflicts 200000 then Some (job.Map conflicts output) else None
+
+-- the job of a command for which this is given; `cnf` needs rows and columns; `cnf` and `map` take output 0, `synth` and `map` 20,000 conflicts, and
+-- `synth` all literals where they are not given
 abbrev pub job_from : Verb → Given → Option Job
 job_from Pairs given = Some (job.Pairs (number_given (codes "output") given))
 job_from Dual given = Some (job.Dual (number_given (codes "output") given))
@@ -120,8 +128,10 @@ job_from Cnf given =
 job_from Verify given = Some job.Verify
 job_from Check given = Some job.Check
 job_from Audit given = Some job.Audit
+job_from Renew given = Some job.Renew
 job_from Synth given =
     synth_given (unwrap_or (number_given (codes "conflicts") given) 20000) (number_given (codes "output") given) (unwrap_or (number_given (codes "rails") given) 1048575)
+job_from Map given = map_given (unwrap_or (number_given (codes "conflicts") given) 20000) (unwrap_or (number_given (codes "output") given) 0)
 
 -- the job of a list of words, of which the first is the command
 abbrev pub job_of : List (List ℕ) → Option Job
@@ -136,4 +146,6 @@ IsWithinBounds (job.Cnf output size) = (size.rows ≤ 16) × (size.cols ≤ 16)
 IsWithinBounds job.Verify = Unit {0}
 IsWithinBounds job.Check = Unit {0}
 IsWithinBounds job.Audit = Unit {0}
+IsWithinBounds job.Renew = Unit {0}
 IsWithinBounds (job.Synth conflicts output rails) = conflicts ≤ 200000
+IsWithinBounds (job.Map conflicts output) = conflicts ≤ 200000

@@ -7,7 +7,7 @@ use Rattle.clap.specs.Words.{App, Rule, new_app, new_rule, found_of, one_text}
 use Rattle.clap.specs.declared.builder.value_parser.ValueParser.TheVariants as vp
 use Rattle.clap.specs.declared.parser.matches.ArgMatches.{ArgMatches}
 use Rattle.four_lattice.specs.declared.words.Verb.{Verb}
-use Rattle.four_lattice.specs.declared.words.Verb.TheVariants.{Pairs, Dual, Cnf, Verify, Check, Audit, Synth}
+use Rattle.four_lattice.specs.declared.words.Verb.TheVariants.{Pairs, Dual, Cnf, Verify, Check, Audit, Synth, Map, Renew}
 use Rattle.four_lattice.specs.Words.{Row, Setting, Given, is_number, is_plain, number_given}
 
 -- the names of all options
@@ -42,7 +42,9 @@ verb_name Cnf = codes "cnf"
 verb_name Verify = codes "verify"
 verb_name Check = codes "check"
 verb_name Audit = codes "audit"
+verb_name Renew = codes "renew"
 verb_name Synth = codes "synth"
+verb_name Map = codes "map"
 
 -- a row of the table as `clap` is told of it
 abbrev pub row_rules : Row → List Rule

@@ -8,9 +8,12 @@ use Rattle.lattice_grid.specs.Rectangle.{Size}
 use Rattle.reach_encoding.specs.Encoding.{Question, encoding}
 use Rattle.report_text.specs.Report.{ReportParts, report_text}
 use Rattle.journal_text.specs.Parts.{JournalParts}
-use Rattle.four_lattice.specs.Judge.{Task, Lattices, Encoding, Realised, Refuted, Confirmed, Minima}
+use Rattle.four_lattice.specs.Judge.{Task, Lattices, Encoding, Realised, Refuted, Confirmed, Minima, Placed, Renewed}
+use Rattle.journal_text.specs.Text.{journal_text}
+use Rattle.audit_core.specs.Renewed.{IsRenewed}
+use Rattle.pla_reader.specs.Parts.{Parts}
 use Rattle.four_lattice.specs.Lattices.{report_by}
-use Rattle.four_lattice.specs.Synth.{IsFront, answers_of, AreMinima, BeginMinima}
+use Rattle.four_lattice.specs.Synth.{Least, OnArray, IsFront, answers_of, AreAnswers, BeginAnswers}
 use Rattle.four_lattice.specs.Verified.{IsVerified}
 
 -- what the standard output and the journal got, where the journal tells, and whether an answer in it is undecided
@@ -42,6 +45,18 @@ pub record SaysFront (text out : List ℕ) (journal : Option (List ℕ)) : Type 
   pub front : IsFront out text
   pub none : journal ≡ Some []
 
+-- The text of a journal made anew is written.
+pub record SaysAnew (parts : Parts) (old : JournalParts) (w : Written) : Type 0 where
+  pub new : JournalParts
+  pub renewed : IsRenewed parts old new
+  pub says : Says (journal_text new) w
+
+-- A front of it alone is written.
+pub record SaysAnewFront (parts : Parts) (old : JournalParts) (out : List ℕ) (journal : Option (List ℕ)) : Type 0 where
+  pub new : JournalParts
+  pub renewed : IsRenewed parts old new
+  pub says : SaysFront (journal_text new) out journal
+
 -- What a task writes, whole. Each lattice of a report of `pairs` or `dual` realises its output.
 abbrev pub Does : Task → Written → Type 0
 Does (Lattices how output parts) w = Says (report_text (report_by how output parts)) w × IsVerified parts (report_by how output parts)
@@ -49,7 +64,9 @@ Does (Encoding size f) w = Says (cnf_text (encoding (question_of size f))) w
 Does (Realised report) w = Says (realised_text report) w
 Does Refuted w = Says (codes "verified\n") w
 Does (Confirmed journal) w = Says (confirmed_text journal) w
-Does (Minima rails budget output parts) w = AreMinima rails budget output parts w.out w.journal w.undecided
+Does (Renewed parts journal) w = SaysAnew parts journal w
+Does (Minima rails budget output parts) w = AreAnswers Least rails budget output parts w.out w.journal w.undecided
+Does (Placed budget output a parts) w = AreAnswers (OnArray a) 1048575 budget (Some output) parts w.out w.journal w.undecided
 
 -- What stands of it where it broke off.
 abbrev pub Begins : Task → List ℕ → Option (List ℕ) → Type 0
@@ -58,4 +75,6 @@ Begins (Encoding size f) out journal = SaysFront (cnf_text (encoding (question_o
 Begins (Realised report) out journal = SaysFront (realised_text report) out journal
 Begins Refuted out journal = SaysFront (codes "verified\n") out journal
 Begins (Confirmed audited) out journal = SaysFront (confirmed_text audited) out journal
-Begins (Minima rails budget output parts) out journal = BeginMinima rails budget output parts out journal
+Begins (Renewed parts audited) out journal = SaysAnewFront parts audited out journal
+Begins (Minima rails budget output parts) out journal = BeginAnswers Least rails budget output parts out journal
+Begins (Placed budget output a parts) out journal = BeginAnswers (OnArray a) 1048575 budget (Some output) parts out journal

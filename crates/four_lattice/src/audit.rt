@@ -51,7 +51,7 @@ fn ending_of_audit(refusal: AuditRefusal) -> Ending
 }
 
 /// Tests a journal against a PLA: the number of its answers where it is right, or else how the run ends.
-fn confirm(alloc: Global, text: &Pla, journal: &Journal) -> Result<u64, Ending>
+pub(crate) fn confirm(alloc: Global, text: &Pla, journal: &Journal) -> Result<u64, Ending>
     requires pla { IsPla (parts_of text.now) }
     requires journal { IsJournal (parts_of_journal journal.now) }
     requires few { length (journal_text (parts_of_journal journal.now)) ≤ most_side_bytes }

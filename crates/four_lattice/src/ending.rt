@@ -6,6 +6,7 @@ use crate::status::Status;
 use crate::verify::VerifyRefusal;
 use audit_core::refusal::AuditRefusal;
 use clause_core::refusal::CnfRefusal;
+use defect_array::read::ArrayRefusal;
 use journal_text::refusal::JournalRefusal;
 use lrat_replay::fault::StepFault;
 use lrat_replay::refusal::LratRefusal;
@@ -21,6 +22,8 @@ pub enum InputRefusal {
     NoSuchOutput,
     /// It is no CNF.
     Cnf(CnfRefusal),
+    /// No array follows the PLA.
+    Array(ArrayRefusal),
 }
 
 /// Why the side file is refused.

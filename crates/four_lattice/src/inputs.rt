@@ -1,6 +1,7 @@
 //! The inputs of the commands are read.
-ghost use Rattle.std.specs.Prelude.{◌≡◌, ◌≢◌, ℕ, ◌≤◌, length, IfOk, OnOk, IfErr, IfSome, Ok};
+ghost use Rattle.std.specs.Prelude.{◌≡◌, ◌≢◌, ℕ, ◌≤◌, length, drop, IfOk, OnOk, IfErr, IfSome, Ok};
 ghost use Rattle.clause_core.specs.CnfRead.{cnf_of};
+ghost use Rattle.defect_array.specs.Reading.{Reads as ReadsArray};
 ghost use Rattle.journal_text.specs.Bounds.{IsJournal};
 ghost use Rattle.journal_text.specs.Parts.{parts_of_journal};
 ghost use Rattle.journal_text.specs.Reading.{Gives as GivesJournal, HasLineNumbers};
@@ -13,8 +14,9 @@ ghost use Rattle.report_text.specs.Reading.{Gives};
 ghost use Rattle.report_text.specs.Report.{parts_of_report};
 ghost use Rattle.wire_io.specs.Told.{IsSpent, LosesUpTo};
 ghost use Rattle.four_lattice.specs.Check.{end_line};
-ghost use Rattle.four_lattice.specs.Devices.{change, unread};
-ghost use Rattle.four_lattice.specs.Inputs.{EndsPla, EndsCnf, EndsLrat, EndsReport, EndsJournal};
+ghost use Rattle.four_lattice.specs.Devices.{change, unread, EndsTest};
+ghost use Rattle.four_lattice.specs.Inputs.{EndsPla, EndsCnf, EndsLrat, EndsReport, EndsJournal, RefusesArray};
+ghost use Rattle.four_lattice.specs.Judge.{as_array};
 ghost use Rattle.four_lattice.specs.Uses.{most_pla_bytes, most_cnf_bytes, most_side_bytes};
 
 use crate::check::last_line;
@@ -22,9 +24,11 @@ use crate::ending::{Ending, InputRefusal, Refusal, SideRefusal};
 use clause_core::formula::Formula;
 use clause_core::read::read_cnf;
 use clause_core::refusal::CnfRefusal;
+use defect_array::read::{ArrayRefusal, read_array};
 use journal_text::journal::Journal;
 use journal_text::read::read_journal;
 use journal_text::refusal::JournalRefusal;
+use lattice_grid::array::Array;
 use lrat_replay::line::Line;
 use lrat_replay::read::read_lrat;
 use lrat_replay::refusal::LratRefusal;
@@ -118,10 +122,30 @@ fn ending_of_journal(refusal: JournalRefusal) -> Ending
     }
 }
 
-/// The PLA that a source has, or how the run ends.
-pub(crate) fn input_pla<S: Source>(alloc: Global, pla: &mut S) -> Result<Pla, Ending>
-    ensures reads { IfOk result (λ text. IfSome (S.left pla.old) (λ bytes. Reads bytes (parts_of text))) }
-    ensures whole { IfOk result (λ text. IsPla (parts_of text)) }
+/// A PLA, and the bytes of the text that it was read from.
+#[derive(Drop)]
+pub(crate) struct Text {
+    pub(crate) pla: Pla,
+    pub(crate) bytes: Vec<u8>,
+}
+
+impl Text {
+    /// The bytes behind the PLA.
+    fn behind(&self) -> &[u8]
+        ensures same { result.now ≡ drop self.now.pla.rest self.now.bytes.items }
+        ensures fewer { length result.now ≤ length self.now.bytes.items }
+    {
+        let place = self.pla.rest.min(self.bytes.len());
+        &self.bytes[place..]
+    }
+}
+
+/// The PLA that a source has, with its text, or how the run ends.
+pub(crate) fn input_text<S: Source>(alloc: Global, pla: &mut S) -> Result<Text, Ending>
+    ensures reads { IfOk result (λ text. IfSome (S.left pla.old) (λ bytes. Reads bytes (parts_of text.pla))) }
+    ensures told { IfOk result (λ text. IfSome (S.left pla.old) (λ bytes. text.bytes.items ≡ bytes)) }
+    ensures few { IfOk result (λ text. length text.bytes.items ≤ most_pla_bytes) }
+    ensures whole { IfOk result (λ text. IsPla (parts_of text.pla)) }
     ensures spent { OnOk result (IsSpent (S.left pla.new)) }
     ensures taken { OnOk result (LosesUpTo (S.left pla.old) (S.left pla.new) most_pla_bytes) }
     ensures ends { IfErr result (λ ending. EndsPla ending (change (S.left pla.old) (S.faults pla.old) (S.left pla.new) (S.faults pla.new))) }
@@ -135,8 +159,51 @@ pub(crate) fn input_pla<S: Source>(alloc: Global, pla: &mut S) -> Result<Pla, En
         }
     };
     match read_pla(alloc, &bytes) {
-        Ok(text) => Ok(text),
+        Ok(pla) => Ok(Text { pla, bytes }),
         Err(refusal) => Err(ending_of_pla(refusal)),
+    }
+}
+
+/// The PLA that a source has, or how the run ends.
+pub(crate) fn input_pla<S: Source>(alloc: Global, pla: &mut S) -> Result<Pla, Ending>
+    ensures reads { IfOk result (λ text. IfSome (S.left pla.old) (λ bytes. Reads bytes (parts_of text))) }
+    ensures whole { IfOk result (λ text. IsPla (parts_of text)) }
+    ensures spent { OnOk result (IsSpent (S.left pla.new)) }
+    ensures taken { OnOk result (LosesUpTo (S.left pla.old) (S.left pla.new) most_pla_bytes) }
+    ensures ends { IfErr result (λ ending. EndsPla ending (change (S.left pla.old) (S.faults pla.old) (S.left pla.new) (S.faults pla.new))) }
+    ensures later { S.faults pla.old ≤ S.faults pla.new }
+{
+    match input_text(alloc, pla) {
+        Ok(text) => Ok(text.pla),
+        Err(ending) => Err(ending),
+    }
+}
+
+/// How a run ends that refuses an array.
+fn ending_of_array(refusal: ArrayRefusal) -> Ending
+    ensures refused { refusal ≢ ArrayRefusal.NoMemory → result ≡ Ending.Refused (as_array refusal) }
+    ensures wanting { refusal ≡ ArrayRefusal.NoMemory → result ≡ Ending.NoMemory }
+{
+    match refusal {
+        ArrayRefusal::NoMemory => Ending::NoMemory,
+        ArrayRefusal::Empty
+        | ArrayRefusal::Ragged { .. }
+        | ArrayRefusal::Byte { .. }
+        | ArrayRefusal::TooLarge { .. } => {
+            Ending::Refused(Refusal::Input(InputRefusal::Array(refusal)))
+        }
+    }
+}
+
+/// The array that follows a PLA in its text, or how the run ends.
+pub(crate) fn input_array(alloc: Global, text: &Text) -> Result<Array, Ending>
+    requires few { length text.now.bytes.items ≤ most_pla_bytes }
+    ensures reads { IfOk result (λ array. ReadsArray (drop text.now.pla.rest text.now.bytes.items) array) }
+    ensures ends { IfErr result (EndsTest (RefusesArray (drop text.now.pla.rest text.now.bytes.items))) }
+{
+    match read_array(alloc, text.behind()) {
+        Ok(array) => Ok(array),
+        Err(refusal) => Err(ending_of_array(refusal)),
     }
 }
 

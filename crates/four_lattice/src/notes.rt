@@ -2,13 +2,14 @@
 ghost use Rattle.std.specs.Prelude.{◌≡◌, ℕ, ◌≤◌, ◌++◌, codes, OnOk};
 ghost use Rattle.wire_io.specs.Causes.{HasCause};
 ghost use Rattle.wire_io.specs.Told.{Gains, GainsFront};
-ghost use Rattle.four_lattice.specs.Ending.{lead_of, pla_name, pla_spot, cnf_name, cnf_spot, journal_name, journal_spot, audit_name, audit_spot, report_name, report_spot, lrat_name, lrat_spot, verify_name, verify_spot, step_name, input_name, input_spot, side_name, side_spot, unconfirmed_name, unconfirmed_spot, refusal_name, refusal_spot, said, note_text};
+ghost use Rattle.four_lattice.specs.Ending.{lead_of, pla_name, pla_spot, cnf_name, cnf_spot, array_name, array_spot, journal_name, journal_spot, audit_name, audit_spot, report_name, report_spot, lrat_name, lrat_spot, verify_name, verify_spot, step_name, input_name, input_spot, side_name, side_spot, unconfirmed_name, unconfirmed_spot, refusal_name, refusal_spot, said, note_text};
 
 use crate::ending::{Ending, InputRefusal, Refusal, SideRefusal, Unconfirmed};
 use crate::verify::VerifyRefusal;
 use audit_core::refusal::AuditRefusal;
 use clause_core::refusal::CnfRefusal;
 use cube_core::assign::Assign;
+use defect_array::read::ArrayRefusal;
 use itoa::Buffer;
 use journal_text::refusal::JournalRefusal;
 use lrat_replay::fault::StepFault;
@@ -106,6 +107,19 @@ fn name_of_cnf(refusal: CnfRefusal) -> &'static [u8]
     }
 }
 
+/// The name of a refusal of an array.
+fn name_of_array(refusal: ArrayRefusal) -> &'static [u8]
+    ensures { result.now ≡ array_name refusal }
+{
+    match refusal {
+        ArrayRefusal::Empty => b"Empty",
+        ArrayRefusal::Ragged { .. } => b"Ragged",
+        ArrayRefusal::Byte { .. } => b"Byte",
+        ArrayRefusal::TooLarge { .. } => b"TooLarge",
+        ArrayRefusal::NoMemory => b"NoMemory",
+    }
+}
+
 /// The name of a refusal of a report.
 fn name_of_report(refusal: ReportRefusal) -> &'static [u8]
     ensures { result.now ≡ report_name refusal }
@@ -175,6 +189,18 @@ fn spot_of_cnf(refusal: CnfRefusal) -> Spot
         | CnfRefusal::Unended { line }
         | CnfRefusal::TooLarge { line } => Spot::At { line },
         CnfRefusal::TooLong | CnfRefusal::NoMemory => Spot::Nowhere,
+    }
+}
+
+/// Where a refusal of an array lies.
+fn spot_of_array(refusal: ArrayRefusal) -> Spot
+    ensures { result ≡ array_spot refusal }
+{
+    match refusal {
+        ArrayRefusal::Ragged { line }
+        | ArrayRefusal::Byte { line }
+        | ArrayRefusal::TooLarge { line } => Spot::At { line },
+        ArrayRefusal::Empty | ArrayRefusal::NoMemory => Spot::Nowhere,
     }
 }
 
@@ -291,6 +317,7 @@ impl InputRefusal {
             InputRefusal::Pla(refusal) => name_of_pla(*refusal),
             InputRefusal::NoSuchOutput => b"NoSuchOutput",
             InputRefusal::Cnf(refusal) => name_of_cnf(*refusal),
+            InputRefusal::Array(refusal) => name_of_array(*refusal),
         }
     }
 
@@ -301,6 +328,7 @@ impl InputRefusal {
             InputRefusal::Pla(refusal) => spot_of_pla(*refusal),
             InputRefusal::NoSuchOutput => Spot::Nowhere,
             InputRefusal::Cnf(refusal) => spot_of_cnf(*refusal),
+            InputRefusal::Array(refusal) => spot_of_array(*refusal),
         }
     }
 }

@@ -3,7 +3,7 @@ ghost use Rattle.std.specs.Prelude.{◌≡◌, ◌⊎◌, ℕ, ◌^◌, ◌<◌,
 ghost use Rattle.wire_io.specs.Causes.{Device};
 ghost use Rattle.four_lattice.specs.Devices.{change};
 ghost use Rattle.four_lattice.specs.Judge.{Comes, JobComes, IsGranted, Opens};
-ghost use Rattle.four_lattice.specs.Laws.{IsOneJudgement};
+ghost use Rattle.four_lattice.specs.Laws.{IsOneJudgement, IsConfirmed};
 ghost use Rattle.four_lattice.specs.Rejected.{IsWorkDone, IsStatusOfWork, UsesFinders};
 ghost use Rattle.four_lattice.specs.Run.{job_asked, Finishes, FinishesAsked, Answers, AreJudged, SettlesRefusal, SettlesTask};
 ghost use Rattle.four_lattice.specs.Uses.{uses, uses_of, most_bytes, most_bytes_of};
@@ -14,7 +14,9 @@ use crate::check::end_of_check;
 use crate::encoding::end_of_cnf;
 use crate::ending::{Ending, Finished, Refusal};
 use crate::lattices::{Construction, end_of_lattices};
+use crate::map::end_of_map;
 use crate::notes::write_note;
+use crate::renew::end_of_renew;
 use crate::status::Status;
 use crate::synth::{Rejected, end_of_synth};
 use crate::verify::end_of_verify;
@@ -87,6 +89,10 @@ fn end_of_job<S: Source, K: Sink>(
             let ending = end_of_audit(alloc, pla, side, out);
             Finished { ending, journal }
         }
+        Job::Renew => {
+            let ending = end_of_renew(alloc, pla, side, out);
+            Finished { ending, journal }
+        }
         Job::Synth {
             conflicts,
             output,
@@ -94,6 +100,9 @@ fn end_of_job<S: Source, K: Sink>(
         } => end_of_synth(
             alloc, output, rails, conflicts, pla, side, out, finders, rejected, journal,
         ),
+        Job::Map { conflicts, output } => {
+            end_of_map(alloc, output, conflicts, pla, side, out, journal)
+        }
     }
 }
 
@@ -252,4 +261,10 @@ pub fn run<S: Source, K: Sink + Drop>(
 /// Told texts come to one judgement.
 pub fn one_judgement()
     ensures { IsOneJudgement }
+{}
+
+/// The journal that `synth` wrote is confirmed by `audit` of it with the same PLA, if it is no longer than a side file may
+/// be: so is each that is right.
+pub fn right_journals()
+    ensures { IsConfirmed }
 {}

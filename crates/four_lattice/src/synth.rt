@@ -6,7 +6,7 @@ ghost use Rattle.report_text.specs.Report.{parts_of_block};
 ghost use Rattle.four_lattice.specs.Devices.{change};
 ghost use Rattle.four_lattice.specs.Judge.{SynthComes, IsGranted};
 ghost use Rattle.four_lattice.specs.Lattices.{IsThere, IsWriteCause};
-ghost use Rattle.four_lattice.specs.Minima.{asked, is_open, AnswersOutput, CutsOutput, WroteOutput, StoppedOutput, WroteBlocks, StoppedBlocks, WroteHeads, StoppedHeads, WroteEnds, StoppedEnds, WroteMinima, StoppedMinima, decision_ending, fault_of_search};
+ghost use Rattle.four_lattice.specs.Minima.{asked, is_open, AnswersOutput, CutsOutput, WroteOutput, StoppedOutput, WroteBlocks, StoppedBlocks, WroteHeads, StoppedHeads, WroteEnds, StoppedEnds, WroteAnswers, StoppedAnswers, decision_ending, fault_of_search};
 ghost use Rattle.four_lattice.specs.Rejected.{rejected_for, AreAskedWhereFull, AreUsedOnce, IsWorkDone, UsesFinders};
 ghost use Rattle.four_lattice.specs.Run.{Finishes};
 ghost use Rattle.four_lattice.specs.Synth.{chosen_outputs, is_undecided};
@@ -17,6 +17,7 @@ use crate::inputs::input_pla;
 use crate::lattices::{WorkFault, has_output};
 use area_search::fault::SearchFault;
 use area_search::least::search;
+use audit_core::laws::right_where_shown;
 use finder_set::finder::Finder;
 use finder_set::improve::Dropped;
 use journal_text::writer::JournalWriter;
@@ -39,7 +40,7 @@ pub(crate) enum Decision {
 
 impl Decision {
     /// Of an answer.
-    fn of(answer: &Answer) -> Decision
+    pub(crate) fn of(answer: &Answer) -> Decision
         ensures { is_open result ≡ is_undecided answer.now }
     {
         match answer {
@@ -63,7 +64,7 @@ impl Decision {
     }
 
     /// How a run ends whose work was done.
-    fn ending(self) -> Ending
+    pub(crate) fn ending(self) -> Ending
         ensures { result ≡ decision_ending self }
     {
         match self {
@@ -248,6 +249,7 @@ fn write_outputs<K: Sink>(
     ensures used { OnOk result (AreAskedWhereFull begun left rails (parts_of pla.now) (range_with_len first (end - first)) finders.old.items finders.new.items rejected.new.items) }
     ensures fewer { vec_len finders.new ≤ vec_len finders.old }
 {
+    right_where_shown();
     let mut writer = writer;
     let mut decision = Decision::Decided;
     for output in first..end {
@@ -311,7 +313,10 @@ fn write_chosen<K: Sink>(
 }
 
 /// Writes the last line of the journal, and then that of the report.
-fn write_ends<K: Sink>(out: &mut K, writer: JournalWriter<K>) -> Result<K, Stopped<WorkFault, K>>
+pub(crate) fn write_ends<K: Sink>(
+    out: &mut K,
+    writer: JournalWriter<K>,
+) -> Result<K, Stopped<WorkFault, K>>
     requires whole { writer.failed ≡ false }
     ensures ends { IfOk result (λ journal. WroteEnds
         (change (K.got out.old) (K.faults out.old) (K.got out.new) (K.faults out.new))
@@ -339,7 +344,7 @@ fn write_ends<K: Sink>(out: &mut K, writer: JournalWriter<K>) -> Result<K, Stopp
 }
 
 /// Writes the lines of the report before its blocks, and then those of the journal before its parts.
-fn write_heads<K: Sink>(
+pub(crate) fn write_heads<K: Sink>(
     out: &mut K,
     pla: &Pla,
     rails: Rails,
@@ -388,10 +393,10 @@ fn write_minima<K: Sink>(
     requires there { IsThere output pla.now.outputs }
     requires conflicts { conflicts ≤ 200000 }
     requires empty { IfSome (K.got journal) (λ bytes. bytes ≡ []) }
-    ensures wrote { IfOk result (λ pair. WroteMinima (asked rails conflicts (parts_of pla.now)) output pair.0
+    ensures wrote { IfOk result (λ pair. WroteAnswers (asked rails conflicts (parts_of pla.now)) output pair.0
         (change (K.got out.old) (K.faults out.old) (K.got out.new) (K.faults out.new))
         (change (K.got journal) (K.faults journal) (K.got pair.1) (K.faults pair.1))) }
-    ensures stopped { IfErr result (λ stopped. StoppedMinima (asked rails conflicts (parts_of pla.now)) output stopped.fault
+    ensures stopped { IfErr result (λ stopped. StoppedAnswers (asked rails conflicts (parts_of pla.now)) output stopped.fault
         (change (K.got out.old) (K.faults out.old) (K.got out.new) (K.faults out.new))
         (change (K.got journal) (K.faults journal) (K.got stopped.held) (K.faults stopped.held))) }
     ensures used { OnOk result (AreAskedWhereFull begun left rails (parts_of pla.now) (chosen_outputs output pla.now.outputs) finders.old.items finders.new.items rejected.new.items) }

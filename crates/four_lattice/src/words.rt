@@ -5,7 +5,7 @@ ghost use Rattle.std.specs.List.{list_all};
 ghost use Rattle.std.specs.Char.{is_ascii_digit};
 ghost use Rattle.clap.specs.Words.{app_of, kind_of, rule_of};
 ghost use Rattle.clap.specs.declared.error.kind.ErrorKind.TheVariants.{OutOfMemory};
-ghost use Rattle.four_lattice.specs.Words.{Given, given_of, is_number, is_plain, job_from, job_of, number_given, cols_setting, conflicts_setting, output_setting, rails_setting, rows_setting, row_of, size_given, synth_given, verb_of, IsWithinBounds};
+ghost use Rattle.four_lattice.specs.Words.{Given, given_of, is_number, is_plain, job_from, job_of, number_given, cols_setting, conflicts_setting, output_setting, rails_setting, rows_setting, row_of, size_given, synth_given, map_given, verb_of, IsWithinBounds};
 ghost use Rattle.four_lattice.specs.WordsParts.{Shows, bare_app, file_rule, is_option, is_spelled, number_rule, row_app, verb_name};
 
 use clap::error::ErrorKind;
@@ -36,12 +36,20 @@ pub enum Job {
     Check,
     /// `audit FILE`: whether the journal in a file is right for a PLA.
     Audit,
+    /// `renew FILE`: the journal in a file, where it is right for a PLA, in version 2 with its lists of proofs.
+    Renew,
     /// `synth FILE`: lattices of least area of a PLA, of one output or of all, over the literals that rails allow, and a
     /// journal in a file that shows it; at most so many conflicts for each question.
     Synth {
         conflicts: u32,
         output: Option<u32>,
         rails: Rails,
+    },
+    /// `map FILE`: a lattice for one output of a PLA on the array with stuck switches that follows the PLA, and a journal in a file
+    /// that shows what is answered; at most so many conflicts.
+    Map {
+        conflicts: u32,
+        output: u32,
     },
 }
 
@@ -54,7 +62,9 @@ pub(crate) enum Verb {
     Verify,
     Check,
     Audit,
+    Renew,
     Synth,
+    Map,
 }
 
 /// Why the words give no job.
@@ -101,7 +111,9 @@ pub(crate) fn verb_of(word: &str) -> Option<Verb>
         "verify" => Some(Verb::Verify),
         "check" => Some(Verb::Check),
         "audit" => Some(Verb::Audit),
+        "renew" => Some(Verb::Renew),
         "synth" => Some(Verb::Synth),
+        "map" => Some(Verb::Map),
         _ => None,
     }
 }
@@ -258,10 +270,15 @@ fn command_of<'a>(alloc: Global, verb: Verb) -> Result<Command<'a>, AllocError>
         Verb::Verify => bare_command(alloc, "verify").arg(file_argument(alloc)),
         Verb::Check => bare_command(alloc, "check").arg(file_argument(alloc)),
         Verb::Audit => bare_command(alloc, "audit").arg(file_argument(alloc)),
+        Verb::Renew => bare_command(alloc, "renew").arg(file_argument(alloc)),
         Verb::Synth => bare_command(alloc, "synth")
             .arg(conflicts_option(alloc))?
             .arg(output_option(alloc))?
             .arg(rails_option(alloc))?
+            .arg(file_argument(alloc)),
+        Verb::Map => bare_command(alloc, "map")
+            .arg(conflicts_option(alloc))?
+            .arg(output_option(alloc))?
             .arg(file_argument(alloc)),
     }
 }
@@ -318,6 +335,17 @@ fn synth_found(conflicts: u32, output: Option<u32>, rails: u32) -> Option<Job>
     })
 }
 
+/// The job `map` of so many conflicts, where these are not above what may be asked for.
+fn map_found(conflicts: u32, output: u32) -> Option<Job>
+    ensures same { result ≡ map_given conflicts output }
+    ensures within { IfSome result IsWithinBounds }
+{
+    if conflicts > MOST_CONFLICTS {
+        return None;
+    }
+    Some(Job::Map { conflicts, output })
+}
+
 /// The job of a command for which this was found.
 fn job_found(verb: Verb, matches: &ArgMatches<'_>) -> Option<Job>
     ensures job { (given : Given) → Shows given matches.now → result ≡ job_from verb given }
@@ -340,10 +368,15 @@ fn job_found(verb: Verb, matches: &ArgMatches<'_>) -> Option<Job>
         Verb::Verify => Some(Job::Verify),
         Verb::Check => Some(Job::Check),
         Verb::Audit => Some(Job::Audit),
+        Verb::Renew => Some(Job::Renew),
         Verb::Synth => synth_found(
             number_found(matches, "conflicts").unwrap_or(USUAL_CONFLICTS),
             number_found(matches, "output"),
             number_found(matches, "rails").unwrap_or(ALL_RAILS),
+        ),
+        Verb::Map => map_found(
+            number_found(matches, "conflicts").unwrap_or(USUAL_CONFLICTS),
+            number_found(matches, "output").unwrap_or(0),
         ),
     }
 }

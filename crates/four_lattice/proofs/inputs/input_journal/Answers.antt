@@ -1,4 +1,4 @@
-use Rattle.std.proofs.Common.{rules, ◌≡◌, ◌≤◌, length, sym, subst}
+use Rattle.std.proofs.Common.{rules, ◌≡◌}
 use Rattle.journal_text.specs.declared.refusal.JournalRefusal.TheVariants as refusals
 use Rattle.four_lattice.specs.Judge.{IsJournalRefused}
 use Rattle.four_lattice.specs.Uses.{most_side_bytes}

@@ -18,8 +18,14 @@ returns-in-Check-clause-finishes g c = rw c.in-Check.is (c.end_of_check-ending.e
 pub returns-in-Audit-clause-finishes : goal.returns-in-Audit-clause-finishes
 returns-in-Audit-clause-finishes g c = rw c.in-Audit.is (c.end_of_audit-ending.ensures.finishes (record { told = g.K.Sink.got c.args.journal; faults = g.K.Sink.faults c.args.journal }))
 
+pub returns-in-Renew-clause-finishes : goal.returns-in-Renew-clause-finishes
+returns-in-Renew-clause-finishes g c = rw c.in-Renew.is (c.end_of_renew-ending.ensures.finishes (record { told = g.K.Sink.got c.args.journal; faults = g.K.Sink.faults c.args.journal }))
+
 pub returns-in-Synth-clause-finishes : goal.returns-in-Synth-clause-finishes
 returns-in-Synth-clause-finishes g c = rw c.in-Synth.is c.end_of_synth.ensures.finishes
 
 pub returns-in-Synth-clause-finders_used : goal.returns-in-Synth-clause-finders_used
 returns-in-Synth-clause-finders_used g c = rw c.in-Synth.is (λ done uses. c.end_of_synth.ensures.used done)
+
+pub returns-in-Map-clause-finishes : goal.returns-in-Map-clause-finishes
+returns-in-Map-clause-finishes g c = rw c.in-Map.is c.end_of_map.ensures.finishes

@@ -6,7 +6,7 @@ use Rattle.four_lattice.specs.Minima.{asked}
 use Rattle.four_lattice.specs.declared.ending.InputRefusal.TheVariants.{NoSuchOutput}
 use Rattle.four_lattice.specs.declared.ending.Refusal.TheVariants.{Input}
 use Rattle.four_lattice.proofs.FinishLaws.{refused_output, spent_alone, LosesUpTo-none}
-use Rattle.four_lattice.proofs.SynthFinish.{minima_done, minima_stopped}
+use Rattle.four_lattice.proofs.SynthFinish.{answers_done, answers_stopped}
 use Rattle.four_lattice.proofs.synth.end_of_synth.Goals as goal
 
 pub returns-then-not-has_output-clause-finishes : goal.returns-then-not-has_output-clause-finishes
@@ -18,7 +18,8 @@ returns-then-not-has_output-clause-finishes g c =
 pub returns-in-Ok-write_minima-clause-finishes : goal.returns-in-Ok-write_minima-clause-finishes
 returns-in-Ok-write_minima-clause-finishes g c =
     let there : IsThere c.args.output c.in-Ok.text.outputs = search rules in
-    rw c.ending.ensures (minima_done _ _ _ _ _ _ (asked c.args.rails c.args.conflicts (parts_of c.in-Ok.text)) c.args.output (inr (parts_of c.in-Ok.text, c.in-Ok.ensures.reads, inr (there, refl)))
+    rw c.ending.ensures (answers_done _ _ _ _ _ _ _ (asked c.args.rails c.args.conflicts (parts_of c.in-Ok.text)) c.args.output (Minima c.args.rails c.args.conflicts c.args.output (parts_of c.in-Ok.text))
+    (inr (parts_of c.in-Ok.text, c.in-Ok.ensures.reads, inr (there, refl))) (λ w h. h) (λ o j h. h) refl
     (spent_alone c.in-Ok.ensures.spent) c.in-Ok.ensures.later (omega arith) c.in-Ok-write_minima.decision c.in-Ok-write_minima.ensures.wrote)
 
 pub returns-in-Ok-write_minima-clause-out_last : goal.returns-in-Ok-write_minima-clause-out_last
@@ -34,7 +35,8 @@ returns-in-Ok-write_minima-clause-journal_last g c =
 pub returns-clause-finishes : goal.returns-clause-finishes
 returns-clause-finishes g c =
     let there : IsThere c.args.output c.in-Ok.text.outputs = search rules in
-    rw c.ending-in-Err-write_minima.ensures (minima_stopped _ _ _ _ _ _ (asked c.args.rails c.args.conflicts (parts_of c.in-Ok.text)) c.args.output (inr (parts_of c.in-Ok.text, c.in-Ok.ensures.reads, inr (there, refl)))
+    rw c.ending-in-Err-write_minima.ensures (answers_stopped _ _ _ _ _ _ _ (asked c.args.rails c.args.conflicts (parts_of c.in-Ok.text)) c.args.output (Minima c.args.rails c.args.conflicts c.args.output (parts_of c.in-Ok.text))
+    (inr (parts_of c.in-Ok.text, c.in-Ok.ensures.reads, inr (there, refl))) (λ w h. h) (λ o j h. h) refl
     (spent_alone c.in-Ok.ensures.spent) c.in-Ok.ensures.later (omega arith) c.in-Ok.ensures.taken (LosesUpTo-none _ _) c.in-Err-write_minima.field-0.fault c.in-Err-write_minima.ensures.stopped)
 
 pub returns-clause-out_last : goal.returns-clause-out_last

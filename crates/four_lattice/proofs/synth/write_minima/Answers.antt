@@ -1,5 +1,5 @@
 use Rattle.std.proofs.Common.{rules, ◌≤◌}
-use Rattle.four_lattice.proofs.SynthLaws.{asked-of, heads-stopped, blocks-stopped, ends-stopped, minima-whole}
+use Rattle.four_lattice.proofs.SynthLaws.{asked-of, heads-stopped, blocks-stopped, ends-stopped, answers-whole}
 use Rattle.four_lattice.proofs.synth.write_minima.Goals as goal
 
 pub returns-in_err-writer-clause-stopped : goal.returns-in_err-writer-clause-stopped
@@ -25,4 +25,4 @@ returns-in_err-journal-clause-stopped g c =
 pub returns-clause-wrote : goal.returns-clause-wrote
 returns-clause-wrote g c =
     let few : c.args.rails ≤ 1048575 = search rules in
-    minima-whole _ c.args.output c.in_ok-decision.decision _ _ _ _ _ _ _ _ (asked-of c.args.pla.now c.args.rails c.args.conflicts c.requires.pla few) c.in_ok-writer.ensures.heads c.in_ok-decision.ensures.wrote c.in_ok-journal.ensures.ends
+    answers-whole _ c.args.output c.in_ok-decision.decision _ _ _ _ _ _ _ _ (asked-of c.args.pla.now c.args.rails c.args.conflicts c.requires.pla few) c.in_ok-writer.ensures.heads c.in_ok-decision.ensures.wrote c.in_ok-journal.ensures.ends

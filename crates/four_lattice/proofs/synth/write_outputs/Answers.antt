@@ -16,7 +16,7 @@ returns-in_err-next-clause-stopped g c =
 
 pub loop-output-preserved : goal.loop-output-preserved
 loop-output-preserved g c = record {
-  wrote = outputs-more _ c.args.first c.loop-output.output c.loop-output.decision c.in_ok-next.next c.and-decision.result _ _ _ _ _ _ c.loop-output.auto.output c.and-decision.ensures c.loop-output.invariant.wrote c.in_ok-next.ensures.wrote;
+  wrote = outputs-more c.right_where_shown.ensures.adds _ c.args.first c.loop-output.output c.loop-output.decision c.in_ok-next.next c.and-decision.result _ _ _ _ _ _ c.requires.pla c.loop-output.auto.output c.and-decision.ensures c.loop-output.invariant.wrote c.in_ok-next.ensures.wrote;
   whole = c.in_ok-next.ensures.whole;
   used = asked_next _ _ c.args.rails (parts_of c.args.pla.now) c.args.first c.loop-output.output _ _ _ _ _ c.requires.pla c.loop-output.auto.output c.loop-output.invariant.used c.in_ok-next.ensures.used;
   fewer = (let before = c.loop-output.invariant.fewer in let now = c.write_output.ensures.fewer in omega arith);
