@@ -1,0 +1,9 @@
+mod Surely
+mod Decided
+mod Failing
+mod Verify
+mod Check
+mod Audit
+mod Lengths
+mod Made
+mod SomeLaws

@@ -1,0 +1,4 @@
+//! What told inputs come to.
+#![tactic(auto)]
+
+pub mod law;
