@@ -1,6 +1,6 @@
 //! Runs of the command `cnf`.
-use crate::row::{Row, done, refused, try_row};
 use four_lattice::status::Status;
+use run_rows::row::{Row, done, refused, try_row};
 use std::test::Fail;
 
 /// One input, and an output that is that input.
@@ -47,7 +47,7 @@ fn formulas(rt: HostRuntime) -> Result<(), Fail> {
         refused_words(&["pairs", "--rows", "1"]),
     ];
     for row in &rows {
-        try_row(&rt, rt.alloc(), row)?;
+        try_row(rt.alloc(), row)?;
     }
     Ok(())
 }

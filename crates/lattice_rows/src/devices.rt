@@ -37,3 +37,11 @@ fn a_file_in_no_folder_cannot_be_written(rt: HostRuntime) -> Result<(), Fail> {
     assert!(rt; write_all(&mut sink, b"text").is_err());
     Ok(())
 }
+
+#[test]
+fn the_standard_error_takes_text_alone(rt: HostRuntime) -> Result<(), Fail> {
+    let mut sink = HostSink::errors(&rt);
+    assert!(rt; write_all(&mut sink, b"a line for the standard error\n").is_ok());
+    assert!(rt; write_all(&mut sink, b"\xFF").is_err());
+    Ok(())
+}

@@ -1,7 +1,7 @@
 //! Runs of the command `dual`.
-use crate::row::{done, refused, try_row, words_of};
 use four_lattice::run::run;
 use four_lattice::status::Status;
+use run_rows::row::{done, refused, try_row, words_of};
 use std::alloc::Global;
 use std::test::Fail;
 use wire_io::firm::{FirmSink, FirmSource};
@@ -74,7 +74,7 @@ fn texts(rt: HostRuntime) -> Result<(), Fail> {
         ),
     ];
     for row in &rows {
-        try_row(&rt, rt.alloc(), row)?;
+        try_row(rt.alloc(), row)?;
     }
     Ok(())
 }
@@ -126,7 +126,7 @@ fn chosen_outputs(rt: HostRuntime) -> Result<(), Fail> {
         ),
     ];
     for row in &rows {
-        try_row(&rt, rt.alloc(), row)?;
+        try_row(rt.alloc(), row)?;
     }
     Ok(())
 }

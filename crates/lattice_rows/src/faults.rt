@@ -1,7 +1,7 @@
 //! Runs of each command over devices of which a call fails.
-use crate::row::words_of;
 use four_lattice::run::run;
 use four_lattice::status::Status;
+use run_rows::row::words_of;
 use std::alloc::Global;
 use std::process::Abort;
 use std::test::Fail;

@@ -1,7 +1,7 @@
 //! Runs of the command `pairs`.
-use crate::row::{Row, done, refused, try_row, words_of};
 use four_lattice::run::run;
 use four_lattice::status::Status;
+use run_rows::row::{Row, done, refused, try_row, words_of};
 use std::test::Fail;
 use wire_io::firm::{FirmSink, FirmSource};
 use wire_io::memory::{MemorySink, MemorySource};
@@ -62,7 +62,7 @@ fn texts(rt: HostRuntime) -> Result<(), Fail> {
         ),
     ];
     for row in &rows {
-        try_row(&rt, rt.alloc(), row)?;
+        try_row(rt.alloc(), row)?;
     }
     Ok(())
 }
@@ -97,7 +97,7 @@ fn refused_texts(rt: HostRuntime) -> Result<(), Fail> {
         refused_text(".e \x01\n", "input refused: BadByte at line 1\n"),
     ];
     for row in &rows {
-        try_row(&rt, rt.alloc(), row)?;
+        try_row(rt.alloc(), row)?;
     }
     Ok(())
 }

@@ -1,8 +1,8 @@
 //! Words of the command line.
-use crate::row::{Row, refused, try_row, words_of};
 use four_lattice::status::Status;
 use four_lattice::words::{Job, settings};
 use lattice_grid::rails::Rails;
+use run_rows::row::{Row, refused, try_row, words_of};
 use std::alloc::Global;
 use std::test::Fail;
 
@@ -55,7 +55,7 @@ fn no_command(rt: HostRuntime) -> Result<(), Fail> {
         refused_words(&["minima", "J"]),
     ];
     for row in &rows {
-        try_row(&rt, rt.alloc(), row)?;
+        try_row(rt.alloc(), row)?;
     }
     Ok(())
 }

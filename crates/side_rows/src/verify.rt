@@ -1,7 +1,7 @@
 //! Runs of the command `verify`.
-use crate::row::{Row, done, refused, try_row, words_of};
 use four_lattice::run::run;
 use four_lattice::status::Status;
+use run_rows::row::{Row, done, refused, try_row, words_of};
 use std::test::Fail;
 use wire_io::memory::{MemorySink, MemorySource};
 
@@ -77,7 +77,7 @@ fn reports(rt: HostRuntime) -> Result<(), Fail> {
         ),
     ];
     for row in &rows {
-        try_row(&rt, rt.alloc(), row)?;
+        try_row(rt.alloc(), row)?;
     }
     Ok(())
 }
@@ -120,7 +120,7 @@ fn reports_of_version_2(rt: HostRuntime) -> Result<(), Fail> {
         ),
     ];
     for row in &rows {
-        try_row(&rt, rt.alloc(), row)?;
+        try_row(rt.alloc(), row)?;
     }
     Ok(())
 }
@@ -173,7 +173,7 @@ fn refused_sides(rt: HostRuntime) -> Result<(), Fail> {
         ),
     ];
     for row in &rows {
-        try_row(&rt, rt.alloc(), row)?;
+        try_row(rt.alloc(), row)?;
     }
     Ok(())
 }

@@ -1,12 +1,15 @@
 //! Runs of the command `check`.
-use crate::row::{Row, done, refused, try_row, words_of};
 use four_lattice::run::run;
 use four_lattice::status::Status;
+use run_rows::row::{Row, done, refused, try_row, words_of};
 use std::test::Fail;
 use wire_io::memory::{MemorySink, MemorySource};
 
 /// A variable and its complement.
 const BOTH: &str = "p cnf 1 2\n1 0\n-1 0\n";
+
+/// The four clauses over two variables.
+const FOUR: &str = "p cnf 2 4\n1 2 0\n1 -2 0\n-1 2 0\n-1 -2 0\n";
 
 /// The words of the command.
 const CHECK: &[&str] = &["check", "J"];
@@ -32,7 +35,39 @@ fn steps(rt: HostRuntime) -> Result<(), Fail> {
         ),
     ];
     for row in &rows {
-        try_row(&rt, rt.alloc(), row)?;
+        try_row(rt.alloc(), row)?;
+    }
+    Ok(())
+}
+
+#[test]
+fn deletions(rt: HostRuntime) -> Result<(), Fail> {
+    let rows = [
+        done(
+            CHECK,
+            FOUR,
+            "5 1 0 1 2 0\n5 d 1 2 0\n6 0 5 3 4 0\n",
+            "verified\n",
+        ),
+        // A deleted clause is no hint any more.
+        refused(
+            CHECK,
+            FOUR,
+            "5 1 0 1 2 0\n5 d 1 2 0\n6 0 1 3 4 0\n",
+            Status::Unconfirmed,
+            "not confirmed: Unknown at line 3\n",
+        ),
+        // A clause is deleted once.
+        refused(
+            CHECK,
+            FOUR,
+            "5 1 0 1 2 0\n5 d 1 0\n5 d 1 0\n",
+            Status::Unconfirmed,
+            "not confirmed: Unknown at line 3\n",
+        ),
+    ];
+    for row in &rows {
+        try_row(rt.alloc(), row)?;
     }
     Ok(())
 }
@@ -51,7 +86,7 @@ fn formulas(rt: HostRuntime) -> Result<(), Fail> {
         refused_formula("1 0\n", "input refused: Header at line 1\n"),
     ];
     for row in &rows {
-        try_row(&rt, rt.alloc(), row)?;
+        try_row(rt.alloc(), row)?;
     }
     Ok(())
 }

@@ -1,7 +1,9 @@
 //! Runs of the command `audit`.
-use crate::row::{Row, done, refused, try_row, words_of};
+use crate::own::own_journal;
+use crate::parity::{JOURNAL, PARITY};
 use four_lattice::run::run;
 use four_lattice::status::Status;
+use run_rows::row::{Row, done, refused, try_row, words_of};
 use std::alloc::Global;
 use std::process::Abort;
 use std::test::Fail;
@@ -10,30 +12,6 @@ use wire_io::memory::{MemorySink, MemorySource};
 
 /// The words of the command.
 const AUDIT: &[&str] = &["audit", "J"];
-
-/// Parity of two inputs.
-const PARITY: &str = ".i 2\n.o 1\n10 1\n01 1\n.e\n";
-
-/// The lines of a journal of parity, of version 1: four sections of three lines each, and the answer.
-const JOURNAL: [&str; 17] = [
-    "lattice journal 1\n",
-    "question 0 1x2\n",
-    "71 0 55 56 60 69 70 51 52 65 66 7 14 15 22 23 31 38 39 46 47 1 2 4 28 57 58 0\n",
-    "refuted\n",
-    "question 0 2x1\n",
-    "71 0 54 59 60 65 66 55 56 61 62 4 13 16 20 25 28 37 40 44 49 1 2 7 31 51 52 0\n",
-    "refuted\n",
-    "question 0 1x3\n",
-    "108 0 83 84 85 91 105 106 107 76 77 78 98 99 100 8 15 16 23 24 32 39 40 47 48 56 63 64 71 72 1 2 3 5 29 53 86 87 89 0\n",
-    "refuted\n",
-    "question 0 3x1\n",
-    "108 0 81 89 90 91 99 100 101 82 83 84 92 93 94 5 14 17 21 26 29 38 41 45 50 53 62 65 69 74 1 2 3 8 32 56 76 77 79 0\n",
-    "refuted\n",
-    "output 0 f0 minimum 2x2\n",
-    "x0 x1\n",
-    "x1' x0'\n",
-    "end\n",
-];
 
 /// A journal with other lines: from line `first` to line `last`, numbered from 1, the journal has `lines` instead; and
 /// what the run answers.
@@ -235,35 +213,26 @@ fn texts(rt: HostRuntime) -> Result<(), Fail> {
         ),
     ];
     for row in &rows {
-        try_row(&rt, rt.alloc(), row)?;
+        try_row(rt.alloc(), row)?;
     }
     Ok(())
 }
 
-/// What `synth` writes for a PLA with no conflicts is confirmed, with so many answers.
-fn try_own(rt: &impl Abort, alloc: Global, text: &str, out: &str) -> Result<(), Fail> {
-    let words = words_of(alloc, &["synth", "--conflicts", "0", "J"])?;
-    let mut pla = FirmSource::new(text.as_bytes().to_vec(alloc)?, 64);
-    let mut side = FirmSource::new(Vec::new(alloc), 1);
-    let mut report = FirmSink::new(alloc, 4000, 64)?;
-    let mut notes = FirmSink::new(alloc, 100, 3)?;
-    let journal = FirmSink::new(alloc, 400_000, 500)?;
-    let mut finders = Vec::new(alloc);
-    let ended = run(
-        alloc,
-        &words,
-        &mut pla,
-        &mut side,
-        &mut report,
-        journal,
-        &mut notes,
-        &mut finders,
-    );
+/// What `synth` writes for a PLA is confirmed, with so many answers.
+fn try_own(
+    rt: &impl Abort,
+    alloc: Global,
+    text: &str,
+    status: Status,
+    out: &str,
+) -> Result<(), Fail> {
     let words = words_of(alloc, AUDIT)?;
     let mut pla = FirmSource::new(text.as_bytes().to_vec(alloc)?, 64);
-    let mut side = FirmSource::new(ended.journal.bytes().to_vec(alloc)?, 500);
+    let mut side = FirmSource::new(own_journal(rt, alloc, text, status)?, 500);
     let mut confirmed = FirmSink::new(alloc, 100, 7)?;
+    let mut notes = FirmSink::new(alloc, 100, 3)?;
     let journal = FirmSink::new(alloc, 1, 1)?;
+    let mut finders = Vec::new(alloc);
     let ended = run(
         alloc,
         &words,
@@ -282,17 +251,19 @@ fn try_own(rt: &impl Abort, alloc: Global, text: &str, out: &str) -> Result<(), 
 
 #[test]
 fn own_journals(rt: HostRuntime) -> Result<(), Fail> {
-    try_own(&rt, rt.alloc(), PARITY, "confirmed 1\n")?;
+    try_own(&rt, rt.alloc(), PARITY, Status::Done, "confirmed 1\n")?;
     try_own(
         &rt,
         rt.alloc(),
         ".i 3\n.o 1\n100 1\n010 1\n001 1\n111 1\n.e\n",
+        Status::Undecided,
         "confirmed 1\n",
     )?;
     try_own(
         &rt,
         rt.alloc(),
         ".i 2\n.o 2\n11 10\n1- 01\n.e\n",
+        Status::Done,
         "confirmed 2\n",
     )
 }

@@ -1,0 +1,5 @@
+//! Runs of the command `map`.
+#![tactic(auto)]
+
+#[cfg(test)]
+mod map;
