@@ -1,0 +1,11 @@
+#!/bin/sh
+# Times `audit` of the journals of some circuits beside the `synth` that wrote them, and says how much memory each took.
+# usage: bench/audit.sh PROGRAM FOLDER    (PROGRAM is crates/lattice/out/lattice after `rt run` in crates/lattice)
+. "$(dirname "$0")/common.sh"
+python3 "$here/make_circuits.py" "$folder/circuits"
+for name in parity3 full_adder majority5 segments adder2 compare2 square4; do
+    text=$folder/circuits/$name.pla
+    echo "$name: synth $(least_of 1 "$text" synth --conflicts 2000 "$folder/$name.journal")"
+    echo "  journal of $(wc -c <"$folder/$name.journal") bytes; audit $(least_of 3 "$text" audit "$folder/$name.journal")"
+    "$program" audit "$folder/$name.journal" <"$text"
+done
