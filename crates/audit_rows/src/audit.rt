@@ -1,6 +1,6 @@
 //! Runs of the command `audit`.
 use crate::own::own_journal;
-use crate::parity::{JOURNAL, PARITY};
+use crate::parity::{JOURNAL, OLD_TEXT, PARITY};
 use four_lattice::run::run;
 use four_lattice::status::Status;
 use run_rows::row::{Row, done, refused, try_row, words_of};
@@ -295,6 +295,33 @@ fn a_journal_that_fails(rt: HostRuntime) -> Result<(), Fail> {
     assert_eq!(rt; ended.status, Status::ReadFault);
     assert_eq!(rt; out.bytes().len(), 0);
     assert_eq!(rt; notes.bytes(), b"read fault\n".as_slice());
+    assert_eq!(rt; ended.journal.bytes().len(), 0);
+    Ok(())
+}
+
+#[test]
+fn a_sink_that_fails(rt: HostRuntime) -> Result<(), Fail> {
+    let alloc = rt.alloc();
+    let words = words_of(alloc, AUDIT)?;
+    let mut pla = MemorySource::new(PARITY.as_bytes().to_vec(alloc)?, 64, Vec::new(alloc));
+    let mut side = MemorySource::new(OLD_TEXT.as_bytes().to_vec(alloc)?, 400, Vec::new(alloc));
+    let mut out = MemorySink::new(alloc, 400, 7, vec![in alloc; 2]?)?;
+    let journal = MemorySink::new(alloc, 1, 1, Vec::new(alloc))?;
+    let mut notes = MemorySink::new(alloc, 100, 3, Vec::new(alloc))?;
+    let mut finders = Vec::new(alloc);
+    let ended = run(
+        alloc,
+        &words,
+        &mut pla,
+        &mut side,
+        &mut out,
+        journal,
+        &mut notes,
+        &mut finders,
+    );
+    assert_eq!(rt; ended.status, Status::WriteFault);
+    assert_eq!(rt; out.bytes(), b"confirm".as_slice());
+    assert_eq!(rt; notes.bytes(), b"write fault\n".as_slice());
     assert_eq!(rt; ended.journal.bytes().len(), 0);
     Ok(())
 }
