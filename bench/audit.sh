@@ -9,3 +9,8 @@ for name in parity3 full_adder majority5 segments adder2 compare2 square4; do
     echo "  journal of $(wc -c <"$folder/$name.journal") bytes; audit $(least_of 3 "$text" audit "$folder/$name.journal")"
     "$program" audit "$folder/$name.journal" <"$text"
 done
+
+# a journal nearly as long as one may be: the sections of the majority of five, again and again
+python3 "$here/long_journal.py" "$folder/majority5.journal" "$folder/long.journal" 536870912
+echo "long journal of $(wc -c <"$folder/long.journal") bytes; audit $(least_of 1 "$folder/circuits/majority5.pla" audit "$folder/long.journal")"
+"$program" audit "$folder/long.journal" <"$folder/circuits/majority5.pla"
