@@ -1,6 +1,6 @@
 #!/bin/sh
-# Times `map` of an array of 16 by 16 for an output of ten inputs beside a public solver (Debian's package cadical) on the formula of
-# that size, which `cnf` writes, with as many conflicts.
+# Times `map` of an array of 16 by 16 sound switches for an output of ten inputs beside a public solver (Debian's package cadical) on
+# the same formula, which `cnf` writes, with as many conflicts.
 # usage: bench/map.sh PROGRAM FOLDER    (PROGRAM is crates/lattice/out/lattice after `rt run` in crates/lattice)
 . "$(dirname "$0")/common.sh"
 python3 "$here/make_inputs.py" "$folder"
