@@ -8,12 +8,12 @@ use Rattle.std.specs.FinSet as set
 use Rattle.std.proofs.lemmas.List.{take_at, get_or-append-add}
 use Rattle.std.proofs.lemmas.List.Elements.{recursion_from_All}
 use Rattle.std.proofs.lemmas.List.Sums.{sum_by-cons}
-use Rattle.cube_core.specs.Members.{Assignments, passing_below, complement_of, AreDisjoint}
+use Rattle.cube_core.specs.Members.{passing_below, AreDisjoint}
 use Rattle.pla_reader.specs.declared.fault.LineFault.{LineFault}
 use Rattle.pla_reader.specs.declared.fault.LineFault.TheVariants.{Inputs, Outputs}
 use Rattle.pla_reader.specs.declared.kind.Kind.TheVariants.{Fd}
-use Rattle.pla_reader.specs.Plain.{IsMark, RowText, IsRow, Plain, IsPlain, Spells, row_text, rows_text, number_line, spelling}
-use Rattle.pla_reader.specs.Meaning.{allows, covers, on_below, on_of, function_of, functions_below, functions_of}
+use Rattle.pla_reader.specs.Plain.{IsDigit, RowText, IsRow, Plain, IsPlain, Spells, row_text, rows_text, number_line, spelling}
+use Rattle.pla_reader.specs.Meaning.{allows, covers, marked_below, ones_of, dashes_of, function_of, functions_below, functions_of}
 use Rattle.pla_reader.specs.Names.{default_names}
 use Rattle.pla_reader.specs.Parts.{Parts}
 use Rattle.pla_reader.specs.PlainParts.{ReadsPlain}
@@ -56,70 +56,66 @@ none_passing zero = refl
 none_passing (suc n) = none_passing n
 
 -- the mark of a plain row for an output
-mark_at : (marks : List ℕ) (k : ℕ) → AllByRecursion IsMark marks → (f g : ℕ → Bool) → f 0 ≡ g 0 → f 48 ≡ g 48 → f 49 ≡ g 49 → f (get_or marks k 0) ≡ g (get_or marks k 0)
-mark_at [] k h f g none off on = none
-mark_at (m ∷ marks) zero h f g none off on = elim h.0 [ inl e ↦ ap f e ∙ off ∙ sym (ap g e) | inr e ↦ ap f e ∙ on ∙ sym (ap g e) ]
-mark_at (m ∷ marks) (suc k) h f g none off on = mark_at marks k h.1 f g none off on
+-- two tests of marks that agree on those that a plain row may have, and behind them
+record Agree (f g : ℕ → Bool) : Type 0 where
+  none : f 0 ≡ g 0
+  zeros : f 48 ≡ g 48
+  ones : f 49 ≡ g 49
+  dashes : f 45 ≡ g 45
+
+mark_at : (marks : List ℕ) (k : ℕ) → AllByRecursion IsDigit marks → (f g : ℕ → Bool) → Agree f g → f (get_or marks k 0) ≡ g (get_or marks k 0)
+mark_at [] k h f g a = a.none
+mark_at (m ∷ marks) zero h f g a = elim h.0 [
+  | inl e ↦ ap f e ∙ a.zeros ∙ sym (ap g e)
+  | inr (inl e) ↦ ap f e ∙ a.ones ∙ sym (ap g e)
+  | inr (inr e) ↦ ap f e ∙ a.dashes ∙ sym (ap g e)
+]
+mark_at (m ∷ marks) (suc k) h f g a = mark_at marks k h.1 f g a
 
 -- what a row of a plain text names
-row_named : (f g : ℕ → Bool) (inputs outputs k x : ℕ) (row : RowText) → f 0 ≡ g 0 → f 48 ≡ g 48 → f 49 ≡ g 49 → IsRow inputs outputs row → row_names f inputs k x (row_digits row) ≡ (g (get_or row.marks k 0) && allows row.digits x)
-row_named f g inputs outputs k x row none off on h =
+row_named : (f g : ℕ → Bool) (inputs outputs k x : ℕ) (row : RowText) → Agree f g → IsRow inputs outputs row → row_names f inputs k x (row_digits row) ≡ (g (get_or row.marks k 0) && allows row.digits x)
+row_named f g inputs outputs k x row a h =
     ap (λ w. f (get_or (row_digits row) (inputs + k) 0) && allows w x) (take_at row.digits row.marks inputs h.digits)
     ∙ ap (λ n. f (get_or (row_digits row) (n + k) 0) && allows row.digits x) (sym h.digits)
     ∙ ap (λ m. f m && allows row.digits x) (get_or-append-add row.digits row.marks k 0)
-    ∙ ap (λ b. b && allows row.digits x) (mark_at row.marks k (recursion_from_All IsMark row.marks h.all_marks) f g none off on)
+    ∙ ap (λ b. b && allows row.digits x) (mark_at row.marks k (recursion_from_All IsDigit row.marks h.all_marks) f g a)
 
-rows_named : (f g : ℕ → Bool) (inputs outputs k x : ℕ) → f 0 ≡ g 0 → f 48 ≡ g 48 → f 49 ≡ g 49 → (rows : List RowText) → AllByRecursion (IsRow inputs outputs) rows
+rows_named : (f g : ℕ → Bool) (inputs outputs k x : ℕ) → Agree f g → (rows : List RowText) → AllByRecursion (IsRow inputs outputs) rows
     → list_any (row_names f inputs k x) (map row_digits rows) ≡ list_any (λ row. g (get_or row.marks k 0) && allows row.digits x) rows
-rows_named f g inputs outputs k x none off on [] h = refl
-rows_named f g inputs outputs k x none off on (row ∷ rows) h =
-    ap (λ b. b || list_any (row_names f inputs k x) (map row_digits rows)) (row_named f g inputs outputs k x row none off on h.0)
-    ∙ ap (λ b. (g (get_or row.marks k 0) && allows row.digits x) || b) (rows_named f g inputs outputs k x none off on rows h.1)
+rows_named f g inputs outputs k x a [] h = refl
+rows_named f g inputs outputs k x a (row ∷ rows) h =
+    ap (λ b. b || list_any (row_names f inputs k x) (map row_digits rows)) (row_named f g inputs outputs k x row a h.0)
+    ∙ ap (λ b. (g (get_or row.marks k 0) && allows row.digits x) || b) (rows_named f g inputs outputs k x a rows h.1)
 
 none_any : (rows : List RowText) → list_any (λ row. false) rows ≡ false
 none_any [] = refl
 none_any (row ∷ rows) = none_any rows
 
--- the rows name on what they cover with a mark
-named_on : (inputs outputs k : ℕ) (rows : List RowText) → AllByRecursion (IsRow inputs outputs) rows → named marks_on inputs (map row_digits rows) k ≡ on_below rows k (2 ^ inputs)
-named_on inputs outputs k rows h =
-    same_passing (λ x. list_any (row_names marks_on inputs k x) (map row_digits rows)) (λ x. list_any (covers k x) rows) (λ x. rows_named marks_on (λ m. m == 49) inputs outputs k x refl refl refl rows h) (2 ^ inputs)
+-- the rows name so what they cover with a mark
+named_with : (f : ℕ → Bool) (mark : ℕ) → Agree f (λ m. m == mark) → (inputs outputs k : ℕ) (rows : List RowText) → AllByRecursion (IsRow inputs outputs) rows
+    → named f inputs (map row_digits rows) k ≡ marked_below mark rows k (2 ^ inputs)
+named_with f mark a inputs outputs k rows h =
+    same_passing (λ x. list_any (row_names f inputs k x) (map row_digits rows)) (λ x. list_any (covers mark k x) rows) (λ x. rows_named f (λ m. m == mark) inputs outputs k x a rows h) (2 ^ inputs)
 
 -- a mark that no plain row has names nothing
-named_none : (f : ℕ → Bool) (inputs outputs k : ℕ) (rows : List RowText) → f 0 ≡ false → f 48 ≡ false → f 49 ≡ false → AllByRecursion (IsRow inputs outputs) rows → named f inputs (map row_digits rows) k ≡ set.empty
-named_none f inputs outputs k rows none off on h =
-    same_passing (λ x. list_any (row_names f inputs k x) (map row_digits rows)) (λ x. false) (λ x. rows_named f (λ m. false) inputs outputs k x none off on rows h ∙ none_any rows) (2 ^ inputs) ∙ none_passing (2 ^ inputs)
+named_none : (f : ℕ → Bool) → Agree f (λ m. false) → (inputs outputs k : ℕ) (rows : List RowText) → AllByRecursion (IsRow inputs outputs) rows → named f inputs (map row_digits rows) k ≡ set.empty
+named_none f a inputs outputs k rows h =
+    same_passing (λ x. list_any (row_names f inputs k x) (map row_digits rows)) (λ x. false) (λ x. rows_named f (λ m. false) inputs outputs k x a rows h ∙ none_any rows) (2 ^ inputs) ∙ none_passing (2 ^ inputs)
 
 -- the sets of a plain text
-sets_of-plain : (inputs outputs k : ℕ) (rows : List RowText) → AllByRecursion (IsRow inputs outputs) rows → sets_of Fd inputs (map row_digits rows) k ≡ record { on = on_below rows k (2 ^ inputs); off = set.empty; free = set.empty }
+sets_of-plain : (inputs outputs k : ℕ) (rows : List RowText) → AllByRecursion (IsRow inputs outputs) rows
+    → sets_of Fd inputs (map row_digits rows) k ≡ record { on = marked_below 49 rows k (2 ^ inputs); off = set.empty; free = marked_below 45 rows k (2 ^ inputs) }
 unfolding sets_of
 sets_of-plain inputs outputs k rows h = λ i. record {
-  on = named_on inputs outputs k rows h i;
-  off = named_none (marks_off Fd) inputs outputs k rows refl refl refl h i;
-  free = named_none (marks_free Fd) inputs outputs k rows refl refl refl h i;
+  on = named_with marks_on 49 (record { none = refl; zeros = refl; ones = refl; dashes = refl }) inputs outputs k rows h i;
+  off = named_none (marks_off Fd) (record { none = refl; zeros = refl; ones = refl; dashes = refl }) inputs outputs k rows h i;
+  free = named_with (marks_free Fd) 45 (record { none = refl; zeros = refl; ones = refl; dashes = refl }) inputs outputs k rows h i;
 }
-
-without_none : (s : Assignments) → set.difference s set.empty ≡ s
-without_none s = set.same_set nat_cmp_total set.nat_cmp-IsAntisymmetric _ _ (λ x.
-    set.contains-difference nat_cmp_total s set.empty x ∙ ap (λ b. set.contains s x && not b) (set.contains-empty _ x) ∙ keep (set.contains s x)) where
-      keep : (b : Bool) → (b && true) ≡ b
-      keep true = refl
-      keep false = refl
-
-with_none : (s : Assignments) → set.union s set.empty ≡ s
-with_none s = set.same_set nat_cmp_total set.nat_cmp-IsAntisymmetric _ _ (λ x.
-    set.contains-union nat_cmp_total s set.empty x ∙ ap (λ b. set.contains s x || b) (set.contains-empty _ x) ∙ keep (set.contains s x)) where
-      keep : (b : Bool) → (b || false) ≡ b
-      keep true = refl
-      keep false = refl
 
 -- the function of an output of a plain text
 function_of-plain : (plain : Plain) (k : ℕ) → AllByRecursion (IsRow plain.inputs plain.outputs) plain.rows → function_of_sets Fd plain.inputs (sets_of Fd plain.inputs (map row_digits plain.rows) k) ≡ function_of plain k
-unfolding on_of
-function_of-plain plain k h =
-    let on : Assignments = on_below plain.rows k (2 ^ plain.inputs) in
-    ap (function_of_sets Fd plain.inputs) (sets_of-plain plain.inputs plain.outputs k plain.rows h)
-    ∙ (λ i. record { inputs = plain.inputs; on = without_none on i; off = complement_of plain.inputs (with_none on i) })
+unfolding ones_of dashes_of
+function_of-plain plain k h = ap (function_of_sets Fd plain.inputs) (sets_of-plain plain.inputs plain.outputs k plain.rows h)
 
 functions_to-plain : (plain : Plain) (k : ℕ) → AllByRecursion (IsRow plain.inputs plain.outputs) plain.rows → functions_to Fd plain.inputs (map row_digits plain.rows) k ≡ functions_below plain k
 functions_to-plain plain zero h = refl

@@ -4,7 +4,7 @@ use Rattle.std.specs.Prelude.{filter, All, ◌==◌, nat_le}
 use Rattle.std.specs.List.{AllByRecursion, list_all, before_first, position_or_len, slice_split, cons_option}
 use Rattle.std.proofs.lemmas.List.{take_at, drop_at}
 use Rattle.std.proofs.lemmas.List.Elements.{All-from_recursion, recursion_from_All}
-use Rattle.pla_reader.specs.Plain.{IsDigit, IsMark, RowText, IsRow, Plain, IsPlain, row_text, rows_text, number_line}
+use Rattle.pla_reader.specs.Plain.{IsDigit, RowText, IsRow, Plain, IsPlain, row_text, rows_text, number_line}
 use Rattle.std.proofs.lemmas.Fmt.{decimal_by_steps, decimal_is_IsNumeral, decimal_nonempty, length-decimal-le}
 use Rattle.std.proofs.lemmas.Bool.Decides.{nat_tests, leb_tells, Decides-eqb}
 use Rattle.std.specs.Str.Parse.{digits_value}
@@ -49,10 +49,6 @@ solid_digit b (inl e) = subst IsSolid (sym e) (record { place = refl; no_gap = r
 solid_digit b (inr (inl e)) = subst IsSolid (sym e) (record { place = refl; no_gap = refl; no_dot = refl; byte = record { printed = refl; no_comment = refl; no_return = refl; no_feed = refl } })
 solid_digit b (inr (inr e)) = subst IsSolid (sym e) (record { place = refl; no_gap = refl; no_dot = refl; byte = record { printed = refl; no_comment = refl; no_return = refl; no_feed = refl } })
 
-solid_mark : (b : ℕ) → IsMark b → IsSolid b
-solid_mark b (inl e) = solid_digit b (inl e)
-solid_mark b (inr e) = solid_digit b (inr (inl e))
-
 each_then : (P Q : ℕ → Type 0) (then : (b : ℕ) → P b → Q b) (xs : List ℕ) → AllByRecursion P xs → AllByRecursion Q xs
 each_then P Q then [] h = tt
 each_then P Q then (x ∷ xs) h = (then x h.0, each_then P Q then xs h.1)
@@ -96,10 +92,10 @@ visible_whole xs some h =
     ap (λ b. before_first (λ c. c == 35) (cond b (take (length xs - 1) xs) xs)) (no_return_last xs some h) ∙ ap (λ n. take n xs) (no_comment_at xs h) ∙ take_all xs
 
 -- a row of a plain text
-pub said_by-row : (digits marks : List ℕ) → 0 < length digits → All IsDigit digits → All IsMark marks → said_by (record { text = digits ++ 32 ∷ marks; ended = true }) ≡ GivesRow (digits ++ marks)
+pub said_by-row : (digits marks : List ℕ) → 0 < length digits → All IsDigit digits → All IsDigit marks → said_by (record { text = digits ++ 32 ∷ marks; ended = true }) ≡ GivesRow (digits ++ marks)
 said_by-row digits marks some ds ms =
     let d : AllByRecursion IsSolid digits = each_then IsDigit IsSolid solid_digit digits (recursion_from_All IsDigit digits ds) in
-    let m : AllByRecursion IsSolid marks = each_then IsMark IsSolid solid_mark marks (recursion_from_All IsMark marks ms) in
+    let m : AllByRecursion IsSolid marks = each_then IsDigit IsSolid solid_digit marks (recursion_from_All IsDigit marks ms) in
     let t : List ℕ = digits ++ 32 ∷ marks in
     let bytes : AllByRecursion IsLineByte t = bytes_of_row digits marks d m in
     let long : 0 < length t = omega (arith, length-append digits (32 ∷ marks)) in
@@ -217,7 +213,7 @@ no_feed-row : (inputs outputs : ℕ) (row : RowText) → IsRow inputs outputs ro
 no_feed-row inputs outputs row h =
     All-from_recursion (λ b. (b == 10) ≡ false) (row.digits ++ 32 ∷ row.marks)
     (each_then IsLineByte (λ b. (b == 10) ≡ false) (λ b r. r.no_feed) (row.digits ++ 32 ∷ row.marks)
-    (bytes_of_row row.digits row.marks (each_then IsDigit IsSolid solid_digit row.digits (recursion_from_All IsDigit row.digits h.all_digits)) (each_then IsMark IsSolid solid_mark row.marks (recursion_from_All IsMark row.marks h.all_marks))))
+    (bytes_of_row row.digits row.marks (each_then IsDigit IsSolid solid_digit row.digits (recursion_from_All IsDigit row.digits h.all_digits)) (each_then IsDigit IsSolid solid_digit row.marks (recursion_from_All IsDigit row.marks h.all_marks))))
 
 -- the lines of rows at the front
 lines_of-rows : (inputs outputs : ℕ) (rows : List RowText) (rest : List ℕ) → AllByRecursion (IsRow inputs outputs) rows → lines_of (rows_text rows ++ rest) ≡ map row_line rows ++ lines_of rest
@@ -319,12 +315,13 @@ digits_pass (d ∷ ds) h = ap (λ b. b && list_all is_input_digit ds) (one d h.0
   one d (inr (inl e)) = ap is_input_digit e
   one d (inr (inr e)) = ap is_input_digit e
 
-marks_pass : (marks : List ℕ) → AllByRecursion IsMark marks → list_all is_output_digit marks ≡ true
+marks_pass : (marks : List ℕ) → AllByRecursion IsDigit marks → list_all is_output_digit marks ≡ true
 marks_pass [] h = refl
 marks_pass (d ∷ ds) h = ap (λ b. b && list_all is_output_digit ds) (one d h.0) ∙ marks_pass ds h.1 where
-  one : (d : ℕ) → IsMark d → is_output_digit d ≡ true
+  one : (d : ℕ) → IsDigit d → is_output_digit d ≡ true
   one d (inl e) = ap is_output_digit e
-  one d (inr e) = ap is_output_digit e
+  one d (inr (inl e)) = ap is_output_digit e
+  one d (inr (inr e)) = ap is_output_digit e
 
 pub row_clear : (inputs outputs before : ℕ) (row : RowText) → IsRow inputs outputs row → before < 65536 → row_fault true inputs outputs before (row_digits row) ≡ None
 row_clear inputs outputs before row h few =
@@ -332,7 +329,7 @@ row_clear inputs outputs before row h few =
     let good : are_digits inputs (row_digits row) ≡ true =
     ap (λ w. list_all is_input_digit w && list_all is_output_digit (drop inputs (row_digits row))) (take_at row.digits row.marks inputs h.digits)
     ∙ ap (λ w. list_all is_input_digit row.digits && list_all is_output_digit w) (drop_at row.digits row.marks inputs h.digits)
-    ∙ ap (λ b. b && list_all is_output_digit row.marks) (digits_pass row.digits (recursion_from_All IsDigit row.digits h.all_digits)) ∙ marks_pass row.marks (recursion_from_All IsMark row.marks h.all_marks) in
+    ∙ ap (λ b. b && list_all is_output_digit row.marks) (digits_pass row.digits (recursion_from_All IsDigit row.digits h.all_digits)) ∙ marks_pass row.marks (recursion_from_All IsDigit row.marks h.all_marks) in
     ap (λ b. first_of ((not b, RowLength) ∷ (not (are_digits inputs (row_digits row)), BadDigit) ∷ (nat_le 65536 before, TooManyRows) ∷ [])) many
     ∙ ap (λ b. first_of ((not b, BadDigit) ∷ (nat_le 65536 before, TooManyRows) ∷ [])) good
     ∙ elim (leb_tells 65536 before) [ inl t ↦ let ge = t.1 in absurd (omega arith) | inr f ↦ ap (λ b. first_of ((b, TooManyRows) ∷ [])) f.0 ]

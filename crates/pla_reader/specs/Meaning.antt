@@ -1,7 +1,8 @@
--- What a plain text means: for each output the assignments that a row with its mark covers, and the others.
+-- What a plain text means: for each output the assignments that rows with the mark `1` cover and none with `-` does, and those that neither covers.
 use Rattle.std.specs.Prelude.{ℕ, suc, zero, ◌++◌, Bool, true, false, ◌&&◌, ◌==◌, ◌^◌, List, [], ◌∷◌, length, slice_index, if◌then◌else◌, Some, None}
 use Rattle.std.specs.declared.option.Option.{Option}
 use Rattle.std.specs.List.{list_any}
+use Rattle.std.specs.FinSet as set
 use Rattle.cube_core.specs.Assignment.{bit}
 use Rattle.cube_core.specs.Cube.{agrees, each_below}
 use Rattle.cube_core.specs.Members.{Assignments, passing_below, complement_of}
@@ -16,23 +17,27 @@ literal_of digit = if digit == 48 then Some false else if digit == 49 then Some 
 unfoldable pub allows : List ℕ → ℕ → Bool
 allows digits x = each_below (λ i. agrees (literal_of (slice_index digits i)) (bit x i)) (length digits)
 
--- whether the row marks output k as 1 and covers x
-abbrev pub covers : ℕ → ℕ → RowText → Bool
-covers k x row = (slice_index row.marks k == 49) && allows row.digits x
+-- whether the row marks output k so and covers x
+abbrev pub covers : ℕ → ℕ → ℕ → RowText → Bool
+covers mark k x row = (slice_index row.marks k == mark) && allows row.digits x
 
--- of the assignments below n those that a row with a mark for output k covers
-abbrev pub on_below : List RowText → ℕ → ℕ → Assignments
-on_below rows k n = passing_below (λ x. list_any (covers k x) rows) n
+-- of the assignments below n those that a row with this mark for output k covers
+abbrev pub marked_below : ℕ → List RowText → ℕ → ℕ → Assignments
+marked_below mark rows k n = passing_below (λ x. list_any (covers mark k x) rows) n
 
--- the assignments that a row with a mark for output k covers
-unfoldable pub on_of : Plain → ℕ → Assignments
-on_of plain k = on_below plain.rows k (2 ^ plain.inputs)
+-- the assignments that a row with the mark `1` for output k covers, and those that a row with `-` covers
+unfoldable pub ones_of : Plain → ℕ → Assignments
+ones_of plain k = marked_below 49 plain.rows k (2 ^ plain.inputs)
 
+unfoldable pub dashes_of : Plain → ℕ → Assignments
+dashes_of plain k = marked_below 45 plain.rows k (2 ^ plain.inputs)
+
+-- a row with `-` wins over one with `1`; all that no row with either covers is off
 abbrev pub function_of : Plain → ℕ → Function
 function_of plain k = record {
   inputs = plain.inputs;
-  on = on_of plain k;
-  off = complement_of plain.inputs (on_of plain k);
+  on = set.difference (ones_of plain k) (dashes_of plain k);
+  off = complement_of plain.inputs (set.union (ones_of plain k) (dashes_of plain k));
 }
 
 -- the functions of the first outputs, so many

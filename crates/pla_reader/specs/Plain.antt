@@ -12,15 +12,11 @@ pub record RowText : Type 0 where
 abbrev pub IsDigit : ℕ → Type 0
 IsDigit b = (b ≡ 48) ⊎ (b ≡ 49) ⊎ (b ≡ 45)
 
--- `0` or `1`
-abbrev pub IsMark : ℕ → Type 0
-IsMark b = (b ≡ 48) ⊎ (b ≡ 49)
-
 pub record IsRow (inputs outputs : ℕ) (row : RowText) : Type 0 where
   pub digits : length row.digits ≡ inputs
   pub marks : length row.marks ≡ outputs
   pub all_digits : All IsDigit row.digits
-  pub all_marks : All IsMark row.marks
+  pub all_marks : All IsDigit row.marks
 
 pub record Plain : Type 0 where
   pub inputs : ℕ
@@ -46,12 +42,6 @@ number_line word n = word ++ decimal n ++ 10 ∷ []
 abbrev pub rows_text : List RowText → List ℕ
 rows_text rows = flat_map row_text rows
 
--- The bytes begin with these rows and the line that ends them; the rest follows.
-pub record HasRows (inputs outputs : ℕ) (bytes : List ℕ) (rows : List RowText) (rest : List ℕ) : Type 0 where
-  pub few : length rows ≤ 65536
-  pub each : All (IsRow inputs outputs) rows
-  pub text : bytes ≡ rows_text rows ++ (codes ".e\n" ++ rest)
-
 -- the text up to the line that ends it
 abbrev pub spelling : Plain → List ℕ
 spelling plain =
@@ -62,7 +52,3 @@ pub record Spells (bytes : List ℕ) (plain : Plain) (rest : ℕ) : Type 0 where
   pub is_plain : IsPlain plain
   pub text : bytes ≡ spelling plain ++ drop rest bytes
   pub within : rest ≤ length bytes
-
--- No plain text is at the front.
-abbrev pub IsNotPlain : List ℕ → Type 0
-IsNotPlain bytes = (plain : Plain) (rest : List ℕ) → IsPlain plain → bytes ≡ spelling plain ++ rest → ⊥

@@ -1,5 +1,5 @@
 -- Words drawn one after another.
-use Rattle.std.proofs.Common.{◌≡◌, ℕ, zero, suc, ◌+◌, ◌-◌, ◌<◌, ◌≤◌, List, [], ◌∷◌, ◌++◌, map, refl, sym, ap, ◌∙◌, subst, arith, append_assoc, append-nil, codes}
+use Rattle.std.proofs.Common.{◌≡◌, ℕ, suc, ◌+◌, ◌-◌, ◌<◌, ◌≤◌, List, [], ◌∷◌, ◌++◌, map, refl, sym, ◌∙◌, subst, arith, append_assoc, append-nil, codes}
 use Rattle.rand_core.specs.Stream.{Stream, next_u32}
 use Rattle.trial_text.specs.Made.{drawn, left_after, digits_of, row_of, rows_of, text_of}
 use Rattle.trial_text.specs.declared.plane.Plane.TheVariants.{Inputs, Outputs}

@@ -1,4 +1,3 @@
-use Rattle.std.proofs.Common.{ap, rules}
 use Rattle.trial_text.specs.Made.{made}
 use Rattle.trial_text.proofs.made.made.Goals as goal
 

@@ -1,4 +1,3 @@
-use Rattle.std.proofs.Common.{◌∙◌, sym, ap}
 use Rattle.trial_text.specs.Made.{digit_of}
 use Rattle.trial_text.proofs.Drawing.{digit_drawn, digits_end, word_left, words_end}
 use Rattle.trial_text.proofs.made.push_digits.Goals as goal

@@ -1,4 +1,4 @@
-use Rattle.std.proofs.Common.{◌≡◌, ◌++◌, ◌<◌, ℕ, ◌-◌, map}
+use Rattle.std.proofs.Common.{◌≡◌, ◌++◌, ◌-◌, map}
 use Rattle.trial_text.specs.Made.{digit_of, drawn, left_after}
 use Rattle.trial_text.proofs.made.push_digits.Given as goal
 

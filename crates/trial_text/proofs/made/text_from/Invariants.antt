@@ -1,4 +1,4 @@
-use Rattle.std.proofs.Common.{◌≡◌, ◌++◌, ℕ, ◌-◌, codes}
+use Rattle.std.proofs.Common.{◌≡◌, ◌++◌, ◌-◌, codes}
 use Rattle.trial_text.specs.Made.{rows_of}
 use Rattle.trial_text.proofs.made.text_from.Given as goal
 
