@@ -20,3 +20,4 @@ mod Visits
 mod Leading
 mod Learning
 mod Searching
+mod Restarting

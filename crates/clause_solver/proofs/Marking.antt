@@ -4,7 +4,7 @@ use Rattle.std.proofs.lemmas.List.{take_more}
 use Rattle.std.proofs.lemmas.Bool.{or_left, or_right, true≢false}
 use Rattle.clause_core.specs.Literal.{Literal, flip, same, has}
 use Rattle.clause_core.proofs.Literals.{has-cases, same-at}
-use Rattle.lrat_replay.specs.Status.{Known, with_literal}
+use Rattle.lrat_replay.specs.Status.{Known}
 
 pub record IsMarking (before now : Known) (clause : List Literal) : Type 0 where
   pub kept : (x : Literal) → before x ≡ true → now x ≡ true
@@ -20,13 +20,14 @@ has-push (y ∷ ys) x l h = elim (has-cases y l (ys ++ x ∷ []) h) [
 pub marking-none : (known : Known) → IsMarking known known []
 marking-none known = record { kept = λ x h. h; marked = λ l h. absurd (true≢false (sym h)) }
 
-pub marking-more : (before known now : Known) (clause : List Literal) (i : ℕ) (x : Literal) → i < length clause → x ≡ get_or clause i x → IsMarking before known (take i clause) → now ≡ with_literal known (flip x) → IsMarking before now (take (i + 1) clause)
-marking-more before known now clause i x h e m is =
-    let more : take (i + 1) clause ≡ take i clause ++ x ∷ [] = take_more clause i x h ∙ ap (λ y. take i clause ++ y ∷ []) (sym e) in
+pub marking-more : (before known now : Known) (clause : List Literal) (i : ℕ) (x : Literal) → i < length clause → x ≡ get_or clause i x → IsMarking before known (take i clause) → ((y : Literal) → known y ≡ true → now y ≡ true) → now (flip x) ≡ true
+    → IsMarking before now (take (i + 1) clause)
+marking-more before known now clause i x h e m more here =
+    let longer : take (i + 1) clause ≡ take i clause ++ x ∷ [] = take_more clause i x h ∙ ap (λ y. take i clause ++ y ∷ []) (sym e) in
     record {
-      kept = λ y k. ap (λ n. n y) is ∙ or_right (same (flip x) y) (known y) (m.kept y k);
-      marked = λ l k. ap (λ n. n (flip l)) is ∙ elim (has-push (take i clause) x l (subst (λ c. has c l ≡ true) more k)) [
-        | inl q ↦ or_right (same (flip x) (flip l)) (known (flip l)) (m.marked l q)
-        | inr q ↦ or_left (same (flip x) (flip l)) (known (flip l)) (same-at (flip x) (flip l) (ap flip q))
+      kept = λ y k. more y (m.kept y k);
+      marked = λ l k. elim (has-push (take i clause) x l (subst (λ c. has c l ≡ true) longer k)) [
+        | inl q ↦ more (flip l) (m.marked l q)
+        | inr q ↦ subst (λ y. now (flip y) ≡ true) q here
       ];
     }

@@ -1,29 +1,19 @@
 -- Values of the last level that were seen.
-use Rattle.std.proofs.Common.{◌≡◌, ℕ, ◌+◌, ◌<◌, ◌≤◌, true, false, List, ◌∷◌, length, ◌⊎◌, inl, inr, refl, sym, ap, ◌∙◌, subst, arith, Option, None, Some}
+use Rattle.std.proofs.Common.{◌≡◌, ℕ, ◌+◌, ◌-◌, ◌<◌, ◌≤◌, true, List, ◌∷◌, length, ◌⊎◌, inl, inr, refl, sym, ap, subst, arith, Option, None, Some}
 use Rattle.std.specs.Prelude.{IfSome, IfNone}
 use Rattle.std.proofs.lemmas.Bool.{both_ways}
 use Rattle.clause_core.specs.Literal.{Literal, flip}
 use Rattle.lrat_replay.specs.Status.{Known}
-use Rattle.clause_solver.specs.Trail.{known_by, oldest, before_last, IsFresh}
-use Rattle.clause_solver.specs.Analysis.{IsSomeSeen, IsNoneSeen, MayResolve, MayKeep}
+use Rattle.clause_solver.specs.Trail.{known_by, oldest, before_last, IsFresh, AreFresh}
+use Rattle.clause_solver.specs.Analysis.{IsWitness, IsSomeSeen, IsNoneSeen, MayResolve, MayKeep}
 use Rattle.clause_solver.specs.declared.value.Value.{Value}
 use Rattle.clause_solver.proofs.Reduce.{value-first}
-use Rattle.clause_solver.proofs.AnalyseLaws.{value_cases}
-use Rattle.clause_solver.proofs.Levels.{known-oldest, unknown-oldest, decision_before, length-oldest}
+use Rattle.clause_solver.proofs.Levels.{known-oldest, unknown-oldest, decision_before, length-oldest, oldest-step}
+use Rattle.clause_solver.proofs.TrailPlaces.{fresh-drop}
 
 module _ (values : List Value) (from : ℕ) (seen : Known) where
   before : Known
   before = known_by (oldest from values)
-
-  pub none_first : IsNoneSeen (known_by (oldest from values)) (oldest from values) seen
-  none_first x s k = k
-
-  pub none_more : (place : ℕ) (v : Value) → oldest (place + 1) values ≡ v ∷ oldest place values → seen v.lit ≡ false
-      → IsNoneSeen (known_by (oldest from values)) (oldest place values) seen → IsNoneSeen (known_by (oldest from values)) (oldest (place + 1) values) seen
-  none_more place v is u h x s k = elim (value_cases v (oldest place values) x (subst (λ vs. known_by vs x ≡ true) is k)) [
-    | inl e ↦ absurd (both_ways (seen v.lit) u (ap seen e ∙ s))
-    | inr o ↦ h x s o
-  ]
 
   pub some_here : (place to : ℕ) (v : Value) → from ≤ place → place < to → oldest (place + 1) values ≡ v ∷ oldest place values → IsFresh (known_by (oldest place values)) v.lit → seen v.lit ≡ true
       → IsSomeSeen (known_by (oldest from values)) (oldest to values) seen
@@ -33,6 +23,16 @@ module _ (values : List Value) (from : ℕ) (seen : Known) where
     is_now = known-oldest values (place + 1) to v.lit (omega arith) (subst (λ vs. known_by vs v.lit ≡ true) (sym is) (value-first v (oldest place values)));
     is_late = unknown-oldest values from place v.lit a fresh.unknown;
   }
+
+  pub some_at : (place known : ℕ) → AreFresh values → place < length values → from ≤ known → known < place → IsWitness values seen from place known
+      → IsSomeSeen (known_by (oldest from values)) (oldest place values) seen
+  some_at place known fresh inside a b w =
+      let step = oldest-step values known (omega arith) in
+      some_here known place step.0 a b step.1 (subst AreFresh step.1 (fresh-drop values (length values - (known + 1)) fresh)).0 (w a b step.0 step.1)
+
+  -- with less values, and more that were seen
+  pub witness_more : (n m known : ℕ) (seen' : Known) → m ≤ n → ((x : Literal) → seen x ≡ true → seen' x ≡ true) → IsWitness values seen from n known → IsWitness values seen' from m known
+  witness_more n m known seen' h more w a b v is = more v.lit (w a (omega arith) v is)
 
   -- a value that is older than the last decision
   pub older_known : (place : ℕ) (v : Value) → place < from → oldest (place + 1) values ≡ v ∷ oldest place values → known_by (oldest from values) v.lit ≡ true

@@ -1,5 +1,5 @@
 -- What the analysis of a conflict keeps, value by value from the newest.
-use Rattle.std.specs.Prelude.{◌≡◌, ◌⊎◌, ℕ, ◌+◌, ◌<◌, ◌≤◌, true, false, List, [], length, Some, ℤ, slice_get}
+use Rattle.std.specs.Prelude.{◌≡◌, ◌⊎◌, ℕ, ◌+◌, ◌<◌, ◌≤◌, true, false, List, [], ◌∷◌, length, Some, ℤ, slice_get}
 use Rattle.std.specs.declared.option.Option.{Option}
 use Rattle.clause_core.specs.Literal.{Literal, flip, has}
 use Rattle.lrat_replay.specs.Status.{Known}
@@ -20,6 +20,10 @@ pub record IsSomeSeen (before : Known) (now : List Value) (seen : Known) : Type 
   pub is_seen : seen lit ≡ true
   pub is_now : known_by now lit ≡ true
   pub is_late : before lit ≡ false
+
+-- the value at a place, if it is one of the last level before another place, was seen
+abbrev pub IsWitness : List Value → Known → ℕ → ℕ → ℕ → Type 0
+IsWitness values seen start place known = start ≤ known → known < place → (value : Value) → oldest (known + 1) values ≡ value ∷ oldest known values → seen value.lit ≡ true
 
 -- none was
 abbrev pub IsNoneSeen : Known → List Value → Known → Type 0

@@ -1,16 +1,16 @@
 //! Analysis of a conflict: a clause that it shows, with the hints by which replay accepts it.
-ghost use Rattle.std.specs.Prelude.{◌≡◌, ◌⊎◌, ℕ, ◌+◌, ◌*◌, ◌<◌, ◌≤◌, ◌∷◌, [], IfOk, IfSome, IfNone, true, false, All, List, length, map, pos};
-ghost use Rattle.clause_core.specs.Literal.{Literal, flip, has};
+ghost use Rattle.std.specs.Prelude.{◌≡◌, ◌⊎◌, ℕ, ◌+◌, ◌*◌, ◌<◌, ◌≤◌, ◌∷◌, [], IfOk, IfSome, IfNone, true, false, All, List, length, map, pos, Some};
+ghost use Rattle.clause_core.specs.Literal.{Literal, number, flip, has};
 ghost use Rattle.clause_core.specs.Formula.{IsOver};
 ghost use Rattle.lrat_replay.specs.Hints.{FitsIn};
 ghost use Rattle.lrat_replay.specs.Marks.{known_of, room};
 ghost use Rattle.lrat_replay.specs.Book.{run, denied, Accepted};
-ghost use Rattle.clause_solver.specs.Trail.{known_by, IsFresh, oldest, before_last, has_decision};
+ghost use Rattle.clause_solver.specs.Trail.{known_by, IsFresh, AreFresh, oldest, before_last, has_decision};
 ghost use Rattle.clause_solver.specs.declared.value.Value.{Value};
 ghost use Rattle.clause_solver.specs.Plain.{HaveReasons, IsConflictAt, AllRest, at_of};
-ghost use Rattle.clause_solver.specs.Analysis.{IsSomeSeen, IsNoneSeen, MayResolve, MayKeep, IsAsserting, IsAnchor, IsLed};
+ghost use Rattle.clause_solver.specs.Analysis.{IsWitness, IsSomeSeen, IsNoneSeen, MayResolve, MayKeep, IsAsserting, IsAnchor, IsLed};
 
-use crate::level::next_decision;
+use crate::order::Order;
 use crate::trail::Trail;
 use clause_core::clauses::Clauses;
 use clause_core::lit::Lit;
@@ -26,62 +26,136 @@ pub struct Learned {
     pub after: usize,
 }
 
+/// Marks a literal; its variable gains activity where it had no mark.
+fn meet(order: &mut Order, seen: &mut Marks, lit: Lit)
+    requires { number lit < room seen.old }
+    ensures kept { (x : Literal) → known_of seen.old x ≡ true → known_of seen.new x ≡ true }
+    ensures marked { known_of seen.new lit ≡ true }
+    ensures room { room seen.new ≡ room seen.old }
+{
+    if seen.has(lit) {
+        return;
+    }
+    order.bump(lit.var());
+    seen.add(lit);
+}
+
 /// Marks the complements of a clause's literals.
-fn mark(seen: &mut Marks, clause: &[Lit])
+fn mark(order: &mut Order, seen: &mut Marks, clause: &[Lit])
     requires { FitsIn (room seen.old) clause.now }
     ensures kept { (x : Literal) → known_of seen.old x ≡ true → known_of seen.new x ≡ true }
     ensures marked { (l : Literal) → has clause.now l ≡ true → known_of seen.new (flip l) ≡ true }
     ensures room { room seen.new ≡ room seen.old }
 {
     for lit in clause {
-        seen.add(lit.flip());
+        meet(order, seen, lit.flip());
     }
 }
 
-/// Whether a value from one place to another was seen.
-fn some_seen(trail: &Trail, seen: &Marks, from: usize, to: usize) -> bool
-    requires room { 2 * trail.now.vars + 2 ≤ room seen.now }
-    requires order { from ≤ to }
-    requires within { to ≤ length trail.now.values }
-    ensures some { result ≡ true → IsSomeSeen (known_by (oldest from trail.now.values)) (oldest to trail.now.values) (known_of seen.now) }
-    ensures none { result ≡ false → IsNoneSeen (known_by (oldest from trail.now.values)) (oldest to trail.now.values) (known_of seen.now) }
-{
-    for place in from..to {
-        if seen.has(trail.value(place).lit) {
-            return true;
-        }
-    }
-    false
-}
-
-/// The reason on which the value at a place, which was seen, is resolved, if it is not kept: at level zero, where
-/// `zero` values stand, always; at the last level, which begins at `start`, while another value of it was seen.
-fn reason_to_resolve(
+/// The place of a value that was seen, from `start` on and before a place: the one that is known, or the newest one.
+fn seen_before(
     trail: &Trail,
     seen: &Marks,
-    zero: usize,
     start: usize,
     place: usize,
-) -> Option<u32>
+    known: usize,
+) -> Option<usize>
+    requires fresh { AreFresh trail.now.values }
     requires room { 2 * trail.now.vars + 2 ≤ room seen.now }
-    requires order { zero ≤ start }
+    requires order { start ≤ place }
+    requires within { place < length trail.now.values }
+    requires known { IsWitness trail.now.values (known_of seen.now) start place known }
+    ensures some { IfSome result (λ other. IsSomeSeen (known_by (oldest start trail.now.values)) (oldest place trail.now.values) (known_of seen.now)) }
+    ensures at { IfSome result (IsWitness trail.now.values (known_of seen.now) start place) }
+    ensures none { IfNone result (IsNoneSeen (known_by (oldest start trail.now.values)) (oldest place trail.now.values) (known_of seen.now)) }
+{
+    if start <= known && known < place {
+        return Some(known);
+    }
+    let mut below = place;
+    while below > start {
+        below -= 1;
+        if seen.has(trail.value(below).lit) {
+            return Some(below);
+        }
+    }
+    None
+}
+
+/// Whether each literal of a clause but one has a complement that was seen, or is false for good.
+fn is_covered(order: &Order, seen: &Marks, clause: &[Lit], one: Lit) -> bool
+    requires { FitsIn (room seen.now) clause.now }
+{
+    for lit in clause {
+        if !lit.is(one) && !order.is_fixed(lit.var()) && !seen.has(lit.flip()) {
+            return false;
+        }
+    }
+    true
+}
+
+/// The reason of the value at a place, of an older level, if all its other literals stand in the learned clause, or are false for good.
+fn reason_to_drop(
+    order: &Order,
+    trail: &Trail,
+    clauses: &Clauses,
+    seen: &Marks,
+    place: usize,
+) -> Option<u32>
+    requires over { All (IsOver trail.now.vars) clauses.now }
+    requires room { 2 * trail.now.vars + 2 ≤ room seen.now }
+    requires within { place < length trail.now.values }
+    ensures { IfSome result (λ id. (value : Value) → oldest (place + 1) trail.now.values ≡ value ∷ oldest place trail.now.values → value.reason ≡ Some id) }
+{
+    let value = trail.value(place);
+    let id = value.reason?;
+    let number = id as usize;
+    if number == 0 || number > clauses.len() {
+        return None;
+    }
+    if is_covered(order, seen, clauses.clause(number - 1), value.lit) {
+        Some(id)
+    } else {
+        None
+    }
+}
+
+/// The reason on which the value at a place, which was seen, is resolved, if it is not kept: at level zero always; at the
+/// last level, which begins at `start`, while another value of it was seen; at the others where that adds no literal.
+fn reason_to_resolve(
+    order: &Order,
+    trail: &Trail,
+    clauses: &Clauses,
+    seen: &Marks,
+    start: usize,
+    place: usize,
+    known: &mut usize,
+) -> Option<u32>
+    requires fresh { AreFresh trail.now.values }
+    requires over { All (IsOver trail.now.vars) clauses.now }
+    requires room { 2 * trail.now.vars + 2 ≤ room seen.now }
     requires last { start < length trail.now.values }
     requires newest { before_last trail.now.values ≡ oldest start trail.now.values }
     requires within { place < length trail.now.values }
+    requires known { IsWitness trail.now.values (known_of seen.now) start place known.old }
+    ensures known { IsWitness trail.now.values (known_of seen.now) start place known.new }
     ensures resolves { IfSome result (λ id. (value : Value) → oldest (place + 1) trail.now.values ≡ value ∷ oldest place trail.now.values → MayResolve (known_by (oldest start trail.now.values)) (oldest place trail.now.values) (known_of seen.now) value id) }
     ensures keeps { IfNone result ((value : Value) → oldest (place + 1) trail.now.values ≡ value ∷ oldest place trail.now.values → MayKeep (known_by (oldest start trail.now.values)) (oldest place trail.now.values) (known_of seen.now) value.lit) }
 {
     let value = trail.value(place);
-    if place < zero {
-        return value.reason;
-    }
     if place < start {
-        return None;
+        if place < order.fixed() {
+            return value.reason;
+        }
+        return reason_to_drop(order, trail, clauses, seen, place);
     }
-    if some_seen(trail, seen, start, place) {
-        return value.reason;
+    match seen_before(trail, seen, start, place, *known) {
+        None => None,
+        Some(other) => {
+            *known = other;
+            value.reason
+        }
     }
-    None
 }
 
 /// How many of the oldest values stay at least, where one more literal is kept: up to the second one that is kept.
@@ -96,6 +170,7 @@ fn values_after(kept: usize, after: usize, place: usize) -> usize
 /// values of level zero are resolved on their reasons, so these are among the hints.
 pub fn analyse(
     alloc: Global,
+    order: &mut Order,
     trail: &Trail,
     clauses: &Clauses,
     seen: &mut Marks,
@@ -119,21 +194,22 @@ pub fn analyse(
     ensures anchor { IfOk result (λ learned. IsAnchor trail.now.values learned.clause.items learned.after) }
     ensures room { room seen.new ≡ room seen.old }
 {
-    let zero = next_decision(trail, 0, start);
     seen.clear();
-    mark(seen, clauses.clause(conflict));
+    mark(order, seen, clauses.clause(conflict));
     let mut clause = Vec::new(alloc);
     let mut hints = Vec::new(alloc);
     hints.push(conflict as u32 + 1)?;
     let mut after = 0;
     let mut place = trail.len();
+    let mut known = place;
     while place > 0 {
         place -= 1;
         let value = trail.value(place);
         if seen.has(value.lit) {
-            match reason_to_resolve(trail, seen, zero, start, place) {
+            let reason = reason_to_resolve(order, trail, clauses, seen, start, place, &mut known);
+            match reason {
                 Some(id) => {
-                    mark(seen, clauses.clause(id as usize - 1));
+                    mark(order, seen, clauses.clause(id as usize - 1));
                     hints.push(id)?;
                 }
                 None => {
@@ -154,6 +230,7 @@ pub fn analyse(
 /// The hints by which replay accepts the empty clause, where nothing was decided.
 pub fn refute(
     alloc: Global,
+    order: &mut Order,
     trail: &Trail,
     clauses: &Clauses,
     seen: &mut Marks,
@@ -170,7 +247,7 @@ pub fn refute(
     ensures room { room seen.new ≡ room seen.old }
 {
     seen.clear();
-    mark(seen, clauses.clause(conflict));
+    mark(order, seen, clauses.clause(conflict));
     let mut hints = Vec::new(alloc);
     hints.push(conflict as u32 + 1)?;
     let mut place = trail.len();
@@ -181,7 +258,7 @@ pub fn refute(
             None => {}
             Some(id) => {
                 if seen.has(value.lit) {
-                    mark(seen, clauses.clause(id as usize - 1));
+                    mark(order, seen, clauses.clause(id as usize - 1));
                     hints.push(id)?;
                 }
             }

@@ -9,8 +9,10 @@ ghost use Rattle.clause_solver.specs.Search.{IsReady, LearnsNew, LearnsUpTo};
 ghost use Rattle.clause_solver.specs.Watching.{IsWorking, IsLearning, HasAdvanced};
 
 use crate::analyse::{analyse, refute};
+use crate::decide::release;
 use crate::learn::learn;
 use crate::level::next_decision;
+use crate::order::Order;
 use crate::work::Work;
 use clause_core::lit::Lit;
 use lrat_replay::ledger::{LearnFault, Ledger};
@@ -38,6 +40,7 @@ fn settle_learned(work: &mut Work, clause: &[Lit]) -> Result<(), NoMemory>
 pub fn learn_conflict<L: Ledger>(
     alloc: Global,
     ledger: &mut L,
+    order: &mut Order,
     work: &mut Work,
     conflict: usize,
     start: usize,
@@ -61,6 +64,7 @@ pub fn learn_conflict<L: Ledger>(
 {
     let learned = analyse(
         alloc,
+        order,
         &work.trail,
         &work.clauses,
         &mut work.seen,
@@ -68,6 +72,7 @@ pub fn learn_conflict<L: Ledger>(
         start,
     )?;
     let keep = next_decision(&work.trail, learned.after, start);
+    release(order, &work.trail, keep)?;
     work.trail.back(keep);
     work.looked = keep;
     learn(
@@ -81,10 +86,29 @@ pub fn learn_conflict<L: Ledger>(
     Ok(())
 }
 
+/// Goes back to the values that no decision came before.
+pub fn restart(order: &mut Order, work: &mut Work) -> Result<(), NoMemory>
+    requires working { IsWorking work.old }
+    ensures working { OnOk result (IsWorking work.new) }
+    ensures clauses { OnOk result (work.new.clauses ≡ work.old.clauses) }
+    ensures vars { OnOk result (work.new.trail.vars ≡ work.old.trail.vars) }
+    ensures seen { OnOk result (work.new.seen ≡ work.old.seen) }
+{
+    let count = work.trail.len();
+    let first = next_decision(&work.trail, 0, count);
+    if first < count {
+        release(order, &work.trail, first)?;
+        work.trail.back(first);
+        work.looked = first;
+    }
+    Ok(())
+}
+
 /// Learns the empty clause from a conflict at level zero.
 pub fn refute_conflict<L: Ledger>(
     alloc: Global,
     ledger: &mut L,
+    order: &mut Order,
     work: &mut Work,
     conflict: usize,
 ) -> Result<(), LearnFault>
@@ -100,6 +124,13 @@ pub fn refute_conflict<L: Ledger>(
     ensures later { L.faults ledger.old ≤ L.faults ledger.new }
     ensures origin { (L.origin ledger.new ≡ L.origin ledger.old) ⊎ (L.origin ledger.new ≡ []) }
 {
-    let hints = refute(alloc, &work.trail, &work.clauses, &mut work.seen, conflict)?;
+    let hints = refute(
+        alloc,
+        order,
+        &work.trail,
+        &work.clauses,
+        &mut work.seen,
+        conflict,
+    )?;
     learn(alloc, ledger, &mut work.clauses, &[], &hints)
 }

@@ -3,8 +3,10 @@ ghost use Rattle.std.specs.Prelude.{◌≡◌, ◌⊎◌, ◌≤◌, ◌+◌, If
 ghost use Rattle.clause_core.specs.Literal.{Literal, flip};
 ghost use Rattle.clause_solver.specs.Trail.{known_by, IsFresh, IsVariableOf, AreValued};
 
+use crate::order::Order;
 use crate::trail::Trail;
 use clause_core::lit::Lit;
+use wire_io::fault::NoMemory;
 
 /// The least variable without value, if there is one.
 pub fn least_unassigned(trail: &Trail) -> Option<Lit>
@@ -19,4 +21,65 @@ pub fn least_unassigned(trail: &Trail) -> Option<Lit>
         }
     }
     None
+}
+
+/// A variable as it is decided, if it is one without value.
+fn without_value(order: &Order, trail: &Trail, var: u32) -> Option<Lit>
+    ensures variable { IfSome result (IsVariableOf trail.now.vars) }
+    ensures fresh { IfSome result (IsFresh (known_by trail.now.values)) }
+{
+    if var == 0 || var > trail.vars() {
+        return None;
+    }
+    let lit = Lit::new(var, order.negated(var));
+    if trail.has(lit) || trail.has(lit.flip()) {
+        return None;
+    }
+    Some(lit)
+}
+
+/// The first variable of the order without value, as it is decided.
+fn first_unassigned(order: &mut Order, trail: &Trail) -> Option<Lit>
+    ensures variable { IfSome result (IsVariableOf trail.now.vars) }
+    ensures fresh { IfSome result (IsFresh (known_by trail.now.values)) }
+{
+    for _ in 0..order.len() {
+        let var = order.take()?;
+        if let Some(lit) = without_value(order, trail, var) {
+            return Some(lit);
+        }
+    }
+    None
+}
+
+/// A variable without value, if there is one: the first one of the order.
+pub fn unassigned(order: &mut Order, trail: &Trail) -> Option<Lit>
+    ensures variable { IfSome result (IsVariableOf trail.now.vars) }
+    ensures fresh { IfSome result (IsFresh (known_by trail.now.values)) }
+    ensures none { IfNone result (AreValued trail.now.vars (known_by trail.now.values)) }
+{
+    match first_unassigned(order, trail) {
+        Some(lit) => Some(lit),
+        None => least_unassigned(trail),
+    }
+}
+
+/// Notes which values stay for good, before a decision.
+pub fn note_fixed(order: &mut Order, trail: &Trail) {
+    let count = trail.len();
+    if order.is_undecided() {
+        for place in order.fixed()..count {
+            order.fix(trail.value(place).lit.var());
+        }
+    }
+    order.decide(count);
+}
+
+/// Notes the values that are taken back, where so many are kept.
+pub fn release(order: &mut Order, trail: &Trail, keep: usize) -> Result<(), NoMemory> {
+    for place in keep..trail.len() {
+        order.release(trail.value(place).lit)?;
+    }
+    order.go_back(keep);
+    Ok(())
 }

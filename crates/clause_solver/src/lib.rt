@@ -7,9 +7,11 @@ mod decide;
 mod learn;
 mod level;
 mod model;
+mod order;
 #[cfg(test)]
 mod plain;
 mod propagate;
+mod restart;
 mod search;
 pub mod solver;
 #[cfg(test)]

@@ -7,9 +7,10 @@ ghost use Rattle.clause_solver.specs.Plain.{IsConflictAt};
 ghost use Rattle.clause_solver.specs.Search.{IsReady, Goes, RoundSo, SearchSo, LearnsUpTo};
 ghost use Rattle.clause_solver.specs.Watching.{IsWorking};
 
-use crate::conflict::{learn_conflict, refute_conflict};
-use crate::decide::least_unassigned;
+use crate::conflict::{learn_conflict, refute_conflict, restart};
+use crate::decide::{note_fixed, release, unassigned};
 use crate::level::last_decision;
+use crate::order::Order;
 use crate::propagate::propagate;
 use crate::trail::Trail;
 use crate::watch::Watches;
@@ -44,13 +45,14 @@ pub enum Ending {
     Spent,
 }
 
-/// Decides the least variable without value, if there is one.
-fn decide(trail: &mut Trail) -> Result<Round, NoMemory>
+/// Decides a variable without value, if there is one.
+fn decide(order: &mut Order, trail: &mut Trail) -> Result<Round, NoMemory>
     ensures decided { result ≡ Ok Round.Decided → IsDecided trail.old trail.new }
     ensures satisfied { result ≡ Ok Round.Satisfied → (trail.new ≡ trail.old) × AreValued trail.old.vars (known_by trail.old.values) }
     ensures other { IfOk result (λ round. (round ≡ Round.Decided) ⊎ (round ≡ Round.Satisfied)) }
 {
-    let Some(lit) = least_unassigned(trail) else {
+    note_fixed(order, trail);
+    let Some(lit) = unassigned(order, trail) else {
         return Ok(Round::Satisfied);
     };
     trail.push(lit, None)?;
@@ -61,6 +63,7 @@ fn decide(trail: &mut Trail) -> Result<Round, NoMemory>
 fn end_at_conflict<L: Ledger>(
     alloc: Global,
     ledger: &mut L,
+    order: &mut Order,
     work: &mut Work,
     conflict: usize,
     left: u32,
@@ -77,13 +80,16 @@ fn end_at_conflict<L: Ledger>(
     ensures origin { (L.origin ledger.new ≡ L.origin ledger.old) ⊎ (L.origin ledger.new ≡ []) }
 {
     let Some(start) = last_decision(&work.trail) else {
-        refute_conflict(alloc, ledger, work, conflict)?;
+        refute_conflict(alloc, ledger, order, work, conflict)?;
         return Ok(Round::Refuted);
     };
     if left == 0 {
         return Ok(Round::Spent);
     }
-    learn_conflict(alloc, ledger, work, conflict, start)?;
+    learn_conflict(alloc, ledger, order, work, conflict, start)?;
+    if order.count() {
+        restart(order, work)?;
+    }
     Ok(Round::Learned)
 }
 
@@ -91,6 +97,7 @@ fn end_at_conflict<L: Ledger>(
 fn next_round<L: Ledger>(
     alloc: Global,
     ledger: &mut L,
+    order: &mut Order,
     work: &mut Work,
     left: u32,
 ) -> Result<Round, LearnFault>
@@ -105,8 +112,8 @@ fn next_round<L: Ledger>(
     ensures origin { (L.origin ledger.new ≡ L.origin ledger.old) ⊎ (L.origin ledger.new ≡ []) }
 {
     match propagate(work)? {
-        None => Ok(decide(&mut work.trail)?),
-        Some(conflict) => end_at_conflict(alloc, ledger, work, conflict, left),
+        None => Ok(decide(order, &mut work.trail)?),
+        Some(conflict) => end_at_conflict(alloc, ledger, order, work, conflict, left),
     }
 }
 
@@ -114,6 +121,7 @@ fn next_round<L: Ledger>(
 pub fn search<L: Ledger>(
     alloc: Global,
     ledger: &mut L,
+    order: &mut Order,
     work: &mut Work,
     budget: u32,
 ) -> Result<Ending, LearnFault>
@@ -126,12 +134,14 @@ pub fn search<L: Ledger>(
     ensures origin { (L.origin ledger.new ≡ L.origin ledger.old) ⊎ (L.origin ledger.new ≡ []) }
 {
     let width = 2 * work.trail.vars() as usize + 2;
+    release(order, &work.trail, 0)?;
+    order.begin();
     work.trail.back(0);
     work.looked = 0;
     work.watches = Watches::new(alloc, width)?;
     let mut learned = 0;
     loop {
-        match next_round(alloc, ledger, work, budget - learned)? {
+        match next_round(alloc, ledger, order, work, budget - learned)? {
             Round::Learned => learned += 1,
             Round::Decided => {}
             Round::Satisfied => return Ok(Ending::Satisfied),

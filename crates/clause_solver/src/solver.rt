@@ -11,6 +11,7 @@ ghost use Rattle.clause_solver.specs.Search.{LearnsNew, LearnsUpTo};
 ghost use Rattle.clause_solver.specs.Solver.{stage_after, IsKept, IsSatisfiedAgain};
 
 use crate::model::valuation;
+use crate::order::Order;
 use crate::search::{Ending, search};
 use crate::trail::Trail;
 use crate::verdict::{SolveFault, Stage, Verdict};
@@ -57,6 +58,7 @@ fn work_of(alloc: Global, formula: &Formula) -> Result<Work, NoMemory>
 fn answer<L: Ledger>(
     alloc: Global,
     ledger: &mut L,
+    order: &mut Order,
     work: &mut Work,
     budget: u32,
 ) -> Result<Verdict, SolveFault>
@@ -73,7 +75,7 @@ fn answer<L: Ledger>(
     ensures ledger { result ≡ Err SolveFault.Ledger → Rose (L.faults ledger.old) (L.faults ledger.new) }
     ensures not_over { result ≡ Err SolveFault.Over → ⊥ }
 {
-    match search(alloc, ledger, work, budget) {
+    match search(alloc, ledger, order, work, budget) {
         Ok(Ending::Satisfied) => match valuation(alloc, &work.trail) {
             Ok(values) => Ok(Verdict::Satisfied(values)),
             Err(NoMemory) => Err(SolveFault::NoMemory),
@@ -89,6 +91,7 @@ fn answer<L: Ledger>(
 fn resume<L: Ledger>(
     alloc: Global,
     ledger: &mut L,
+    order: &mut Order,
     work: &mut Work,
     stage: Stage,
     budget: u32,
@@ -121,7 +124,7 @@ fn resume<L: Ledger>(
     ensures refuted_again { stage ≡ Stage.Refuted → (result ≡ Ok Verdict.Refuted) × (L.book ledger.new ≡ L.book ledger.old) }
 {
     match stage {
-        Stage::Open => answer(alloc, ledger, work, budget),
+        Stage::Open => answer(alloc, ledger, order, work, budget),
         Stage::Satisfied => match valuation(alloc, &work.trail) {
             Ok(values) => Ok(Verdict::Satisfied(values)),
             Err(NoMemory) => Err(SolveFault::NoMemory),
@@ -148,6 +151,7 @@ fn stage_of(answer: &Result<Verdict, SolveFault>) -> Stage
 pub struct Solver<L: Ledger> {
     ledger: L,
     alloc: Global,
+    order: Order,
     work: Work,
     stage: Stage,
 }
@@ -174,10 +178,20 @@ impl<L: Ledger> Solver<L> {
         ensures stage { IfOk result (λ solver. solver.stage ≡ Stage.Open) }
         ensures held { IfErr result (λ stopped. stopped.held ≡ ledger) }
     {
+        let order = match Order::new(alloc, ledger.formula()) {
+            Ok(order) => order,
+            Err(fault) => {
+                return Err(Stopped {
+                    fault,
+                    held: ledger,
+                });
+            }
+        };
         match work_of(alloc, ledger.formula()) {
             Ok(work) => Ok(Solver {
                 ledger,
                 alloc,
+                order,
                 work,
                 stage: Stage::Open,
             }),
@@ -220,6 +234,7 @@ impl<L: Ledger> Solver<L> {
         let answer = resume(
             self.alloc,
             &mut self.ledger,
+            &mut self.order,
             &mut self.work,
             self.stage,
             budget,
@@ -249,9 +264,11 @@ impl<L: Ledger> Solver<L> {
         let Solver {
             ledger,
             alloc: _,
+            order,
             work,
             stage: _,
         } = self;
+        drop(order);
         drop(work);
         ledger
     }

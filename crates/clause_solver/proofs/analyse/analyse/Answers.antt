@@ -8,6 +8,7 @@ use Rattle.clause_solver.specs.Plain.{at_of}
 use Rattle.clause_solver.proofs.Propagation.{all_over, get_inside}
 use Rattle.clause_solver.proofs.AnalyseLaws.{last, same_at, AreNumbers, numbers_reverse}
 use Rattle.clause_solver.proofs.AnalysisSteps.{analysis_first, analysis_pass, analysis_resolve, analysis_keep, analysis_last, analysis_led, reason_here}
+use Rattle.clause_solver.proofs.SomeSeen.{witness_more}
 use Rattle.clause_solver.proofs.Steps.{false_over}
 use Rattle.clause_solver.proofs.analyse.analyse.Goals as goal
 
@@ -20,10 +21,15 @@ pub loop-place-init : goal.loop-place-init
 loop-place-init c = record {
   within = omega (arith, c.len-place.ensures.count);
   room_is = c.mark.ensures.room ∙ c.clear.ensures.room;
+  witness = λ a b v is. absurd (omega arith);
   analysis = analysis_first c.args.clauses.now c.args.trail.now.values c.len-place.ensures.fresh c.requires.reasons c.args.start c.requires.last c.requires.decided c.requires.newest c.args.conflict c.requires.conflict c.clause.result.now c.clause.ensures
       (known_of c.mark.new.seen) c.mark.ensures.marked c.len-place.result c.len-place.ensures.count c.push.new.self.items (c.in_ok-push.ensures.items ∙ ap (λ hs. hs ++ (c.args.conflict + 1) ∷ []) c.new-hints.ensures.items)
       c.new-clause.result.items c.new-clause.ensures.items;
 }
+
+pub reason_to_resolve-reason-requires-clause-known : goal.reason_to_resolve-reason-requires-clause-known
+reason_to_resolve-reason-requires-clause-known c =
+    witness_more c.args.trail.now.values c.args.start (known_of c.loop-place.seen) c.loop-place.place (c.loop-place.place - 1) c.loop-place.known (known_of c.loop-place.seen) (omega arith) (λ x h. h) c.loop-place.invariant.witness
 
 pub overflow_sub-id : goal.overflow_sub-id
 overflow_sub-id c =
@@ -49,6 +55,7 @@ loop-place-preserved-in-Continue-branch-2 c =
     record {
       within = omega (arith, c.loop-place.invariant.within);
       room_is = c.mark-in-Some.ensures.room ∙ c.loop-place.invariant.room_is;
+      witness = witness_more c.args.trail.now.values c.args.start (known_of c.loop-place.seen) (c.loop-place.place - 1) (c.loop-place.place - 1) c.reason_to_resolve-reason.new.known (known_of c.mark-in-Some.new.seen) (omega arith) c.mark-in-Some.ensures.kept c.reason_to_resolve-reason.ensures.known;
       analysis = analysis_resolve c.args.clauses.now c.args.trail.now.values c.len-place.ensures.fresh c.requires.reasons c.args.start c.requires.last c.loop-place.place (c.loop-place.place - 1) c.value-value.result refl c.loop-place-test.true (omega (arith, c.loop-place.invariant.within)) c.value-value.ensures.is c.value-value.ensures.fresh (known_of c.loop-place.seen) c.loop-place.clause.items c.loop-place.hints.items c.loop-place.after c.loop-place.invariant.analysis c.in-Some.id (c.in-Some.ensures.resolves c.value-value.result c.value-value.ensures.is) (sym c.has.ensures ∙ c.if-has.true) k
           (known_of c.mark-in-Some.new.seen) c.mark-in-Some.ensures.kept (λ l m. c.mark-in-Some.ensures.marked l (subst (λ w. has w l ≡ true) same m)) c.push-in-Some.new.self.items c.in_ok-push-in-Some.ensures.items;
     }
@@ -57,6 +64,7 @@ pub loop-place-preserved-in-Continue-branch-3 : goal.loop-place-preserved-in-Con
 loop-place-preserved-in-Continue-branch-3 c = record {
   within = omega (arith, c.loop-place.invariant.within);
   room_is = c.loop-place.invariant.room_is;
+  witness = c.reason_to_resolve-reason.ensures.known;
   analysis = analysis_keep c.args.clauses.now c.args.trail.now.values c.len-place.ensures.fresh c.requires.reasons c.args.start c.requires.last c.loop-place.place (c.loop-place.place - 1) c.value-value.result refl c.loop-place-test.true (omega (arith, c.loop-place.invariant.within)) c.value-value.ensures.is c.value-value.ensures.fresh (known_of c.loop-place.seen) c.loop-place.clause.items c.loop-place.hints.items c.loop-place.after c.loop-place.invariant.analysis (c.in-None.ensures.keeps c.value-value.result c.value-value.ensures.is) (sym c.has.ensures ∙ c.if-has.true)
       c.push-in-None.new.self.items (c.in_ok-push-in-None.ensures.items ∙ ap (λ l. c.loop-place.clause.items ++ l ∷ []) c.flip.ensures) c.values_after-after.result
       (elim c.values_after-after.ensures [ inl e ↦ inl (sym c.loop-place.clause.ok.0 ∙ sym c.len.ensures ∙ e.0, e.1) | inr e ↦ inr (λ q. e.0 (c.len.ensures ∙ c.loop-place.clause.ok.0 ∙ q), e.1) ]);
@@ -66,6 +74,7 @@ pub loop-place-preserved : goal.loop-place-preserved
 loop-place-preserved c = record {
   within = omega (arith, c.loop-place.invariant.within);
   room_is = c.loop-place.invariant.room_is;
+  witness = witness_more c.args.trail.now.values c.args.start (known_of c.loop-place.seen) c.loop-place.place (c.loop-place.place - 1) c.loop-place.known (known_of c.loop-place.seen) (omega arith) (λ x h. h) c.loop-place.invariant.witness;
   analysis = analysis_pass c.args.clauses.now c.args.trail.now.values c.len-place.ensures.fresh c.requires.reasons c.args.start c.requires.last c.loop-place.place (c.loop-place.place - 1) c.value-value.result refl c.loop-place-test.true (omega (arith, c.loop-place.invariant.within)) c.value-value.ensures.is c.value-value.ensures.fresh (known_of c.loop-place.seen) c.loop-place.clause.items c.loop-place.hints.items c.loop-place.after c.loop-place.invariant.analysis (sym c.has.ensures ∙ c.if-has.false);
 }
 
