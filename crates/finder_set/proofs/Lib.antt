@@ -3,4 +3,5 @@ mod FoldLaws
 mod Ordering
 mod ShrinkingLaws
 mod SplitLaws
+mod TrialLaws
 pub mod Wider

@@ -4,8 +4,6 @@
 pub mod finder;
 pub mod fold;
 mod folded;
-#[cfg(test)]
-mod hostile;
 pub mod improve;
 mod shrink;
 pub mod slot;
@@ -14,4 +12,5 @@ pub mod split_and;
 pub mod split_or;
 #[cfg(test)]
 mod tests;
+mod trial;
 pub mod trim;

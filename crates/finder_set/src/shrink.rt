@@ -8,11 +8,10 @@ ghost use Rattle.lattice_grid.specs.Lattice.{IsOver};
 ghost use Rattle.lattice_grid.specs.Rectangle.{IsSize};
 
 use crate::folded::{Neighbours, folded};
+use crate::trial::Trial;
 use cube_core::spec::Spec;
 use lattice_compose::without::{drop_col, drop_row};
 use lattice_grid::grid::Grid;
-use path_meaning::marks::Marks;
-use path_meaning::realise::realises;
 use std::alloc::Global;
 use wire_io::fault::NoMemory;
 
@@ -73,16 +72,16 @@ fn tried(
     spec: &Spec,
     grid: &Grid,
     place: u32,
-    marks: &mut Marks,
+    trial: &mut Trial,
 ) -> Result<Option<Grid>, NoMemory>
     requires place { place < places_of change grid.now }
     requires size { IsSize grid.now.size }
-    requires room { area_of grid.now ≤ marks.old }
+    requires room { area_of grid.now ≤ trial.old }
     ensures tried { IfOk result (HasTried change spec.now place grid.now) }
-    ensures cells { marks.new ≡ marks.old }
+    ensures cells { trial.new ≡ trial.old }
 {
     let less = changed(alloc, change, grid, place)?;
-    if realises(spec, &less, marks).is_ok() {
+    if trial.realises(spec, &less) {
         Ok(Some(less))
     } else {
         Ok(None)
@@ -105,17 +104,17 @@ fn shrunk(
     change: Change,
     spec: &Spec,
     best: &Grid,
-    marks: &mut Marks,
+    trial: &mut Trial,
 ) -> Result<Option<Grid>, NoMemory>
-    requires { area_of best.now ≤ marks.old }
+    requires { area_of best.now ≤ trial.old }
     ensures shrinks { IfOk result (λ smaller. Shrinks change spec.now 0 best.now (unwrap_or smaller best.now)) }
     ensures right { IfOk result (λ smaller. IfSome smaller (IsRightAndSmaller spec.now best.now)) }
-    ensures cells { marks.new ≡ marks.old }
+    ensures cells { trial.new ≡ trial.old }
 {
     let mut smaller = None;
     let mut place = 0;
     while place < places(change, current(best, &smaller)) {
-        match tried(alloc, change, spec, current(best, &smaller), place, marks)? {
+        match tried(alloc, change, spec, current(best, &smaller), place, trial)? {
             Some(less) => smaller = Some(less),
             None => place += 1,
         }
@@ -138,8 +137,8 @@ pub(crate) fn proposed(
     if area > MOST {
         return Ok(None);
     }
-    let mut marks = Marks::new(alloc, area)?;
-    let once = shrunk(alloc, first, spec, best, &mut marks)?;
-    let twice = shrunk(alloc, second, spec, current(best, &once), &mut marks)?;
+    let mut trial = Trial::new(alloc, area)?;
+    let once = shrunk(alloc, first, spec, best, &mut trial)?;
+    let twice = shrunk(alloc, second, spec, current(best, &once), &mut trial)?;
     Ok(twice.or(once))
 }

@@ -63,7 +63,7 @@ fn column_of(alloc: Global, row: &Grid) -> Result<Option<Grid>, NoMemory> {
 }
 
 /// A row of these controls.
-pub(crate) fn row_of(controls: Vec<Control>) -> Option<Grid> {
+fn row_of(controls: Vec<Control>) -> Option<Grid> {
     if !controls.iter().all(|control| control.names_below(10)) {
         return None;
     }
@@ -72,7 +72,7 @@ pub(crate) fn row_of(controls: Vec<Control>) -> Option<Grid> {
 }
 
 /// 1 where the inputs differ.
-pub(crate) fn exclusive_or() -> Option<Spec> {
+fn exclusive_or() -> Option<Spec> {
     let mut on = Table::empty();
     on.add(Assign::new(1)?);
     on.add(Assign::new(2)?);

@@ -7,8 +7,8 @@ use Rattle.finder_set.proofs.shrink.shrunk.Given as goal
 abbrev pub invariant-loop-place : goal.invariant-loop-place
 invariant-loop-place l = record {
   shrinking : IsShrinking l.change l.spec l.best l.place l.smaller;
-  room : area_of (unwrap_or l.smaller l.best) ≤ l.marks;
-  same : l.marks ≡ l.initial.marks;
+  room : area_of (unwrap_or l.smaller l.best) ≤ l.trial;
+  same : l.trial ≡ l.initial.trial;
 }
 
 abbrev pub decreases-loop-place : goal.decreases-loop-place
