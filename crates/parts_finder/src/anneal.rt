@@ -13,6 +13,12 @@ use wire_io::fault::NoMemory;
 /// The most inputs of a function whose lattices are changed so: all of its assignments are in one word.
 pub(crate) const INPUTS: u8 = 5;
 
+/// How many changes of cells are tried for cells that were drawn at random.
+const STEPS: u32 = 8_000;
+
+/// After how many changes two cells exchange their controls.
+const EXCHANGE: u32 = 4;
+
 /// A lattice that is changed, and at which assignments it is wrong.
 #[derive(Drop)]
 struct Sketch {
@@ -78,15 +84,16 @@ fn new_control(random: &mut Random, part: &Part, wrong: u64) -> Control {
 }
 
 /// How many halves the chance is multiplied by for each assignment more at which a lattice is wrong: more in later steps.
-fn halves(step: u32) -> u32 {
-    10 + (step / 256).min(5)
+fn halves(step: u32, steps: u32) -> u32 {
+    let part = u64::from(step).saturating_mul(6) / u64::from(steps.max(1));
+    10 + part.min(5) as u32
 }
 
 /// Whether a change stays: always where the lattice is wrong at no more assignments than before, and rarely else.
-fn stays(random: &mut Random, before: u64, now: u64, step: u32) -> bool {
+fn stays(random: &mut Random, before: u64, now: u64, halves: u32) -> bool {
     let more = now.count_ones().saturating_sub(before.count_ones());
-    let halves = halves(step).saturating_mul(more);
-    halves < 31 && random.next() & ((1u32 << halves) - 1) == 0
+    let shift = halves.saturating_mul(more);
+    shift < 31 && random.next() & ((1u32 << shift) - 1) == 0
 }
 
 impl Sketch {
@@ -105,29 +112,90 @@ impl Sketch {
         })
     }
 
-    /// Gives a cell another control, and takes it back where the change doesn't stay.
+    /// Cells of a lattice that are drawn at random, to be changed.
+    fn of_shape(
+        tester: &mut Tester,
+        random: &mut Random,
+        part: &Part,
+        shape: Shape,
+    ) -> Result<Sketch, NoMemory> {
+        let mut cells = Vec::new(tester.alloc());
+        for _cell in 0..shape.area() {
+            cells.push(any_control(random, part.inputs))?;
+        }
+        let wrong = wrong_at(part, tester.first_word(&cells, shape.cols())?);
+        Ok(Sketch {
+            shape,
+            cells,
+            wrong,
+        })
+    }
+
+    /// Gives a cell another control, or exchanges the controls of two; takes it back where the change doesn't stay.
     fn change(
         &mut self,
         tester: &mut Tester,
         random: &mut Random,
         part: &Part,
         step: u32,
+        steps: u32,
     ) -> Result<(), NoMemory> {
-        let cell = random.next() as usize % self.cells.len().max(1);
-        if cell >= self.cells.len() {
-            return Ok(());
+        let (cell, other) = (self.any_cell(random), self.any_cell(random));
+        let (old, old_other) = (self.cell(cell), self.cell(other));
+        if step % EXCHANGE == EXCHANGE - 1 {
+            self.put(cell, old_other);
+            self.put(other, old);
+        } else {
+            self.put(cell, new_control(random, part, self.wrong));
         }
-        let old = self.cells[cell];
-        self.cells[cell] = new_control(random, part, self.wrong);
         let joined = tester.first_word(&self.cells, self.shape.cols())?;
         let now = wrong_at(part, joined);
-        if stays(random, self.wrong, now, step) {
+        if stays(random, self.wrong, now, halves(step, steps)) {
             self.wrong = now;
         } else {
-            self.cells[cell] = old;
+            self.put(other, old_other);
+            self.put(cell, old);
         }
         Ok(())
     }
+
+    /// A cell by its number, drawn at random.
+    fn any_cell(&self, random: &mut Random) -> usize {
+        random.next() as usize % self.cells.len().max(1)
+    }
+
+    /// The control of a cell, and `0` where there is none.
+    fn cell(&self, cell: usize) -> Control {
+        match self.cells.get(cell) {
+            Some(control) => *control,
+            None => Control::Zero,
+        }
+    }
+
+    /// Gives a cell a control.
+    fn put(&mut self, cell: usize, control: Control) {
+        if cell < self.cells.len() {
+            self.cells[cell] = control;
+        }
+    }
+}
+
+/// A lattice of the same shape that realises the function, if so many changes of cells lead to one.
+fn settled(
+    tester: &mut Tester,
+    random: &mut Random,
+    part: &Part,
+    sketch: Sketch,
+    steps: u32,
+) -> Result<Option<Grid>, NoMemory> {
+    let mut sketch = sketch;
+    for step in 0..steps {
+        if sketch.wrong == 0 {
+            return Ok(Some(drawn(tester.alloc(), &sketch, sketch.shape)?));
+        }
+        sketch.change(tester, random, part, step, steps)?;
+    }
+    Ok(None)
 }
 
 /// A lattice of the same shape that realises the function, if changes of cells lead to one.
@@ -138,12 +206,27 @@ fn annealed(
     grid: &Grid,
     steps: u32,
 ) -> Result<Option<Grid>, NoMemory> {
-    let mut sketch = Sketch::of_grid(tester, part, grid)?;
-    for step in 0..steps {
-        if sketch.wrong == 0 {
-            return Ok(Some(drawn(tester.alloc(), &sketch, sketch.shape)?));
+    let sketch = Sketch::of_grid(tester, part, grid)?;
+    settled(tester, random, part, sketch, steps)
+}
+
+/// A lattice of a shape that realises the function, if changes of cells lead to one from cells that are drawn at random, so
+/// many times.
+pub(crate) fn of_shape(
+    tester: &mut Tester,
+    random: &mut Random,
+    part: &Part,
+    shape: Shape,
+    tries: u32,
+) -> Result<Option<Grid>, NoMemory> {
+    for _try in 0..tries {
+        if tester.is_half_tired() {
+            return Ok(None);
         }
-        sketch.change(tester, random, part, step)?;
+        let sketch = Sketch::of_shape(tester, random, part, shape)?;
+        if let Some(grid) = settled(tester, random, part, sketch, STEPS)? {
+            return Ok(Some(grid));
+        }
     }
     Ok(None)
 }

@@ -1,5 +1,5 @@
 //! Lattices of one function, none of which fits inside another.
-use crate::anneal::smaller;
+use crate::anneal::{of_shape, smaller};
 use crate::classes::Form;
 use crate::join::{join, shape_of};
 use crate::part::{Part, input_at};
@@ -18,6 +18,15 @@ const MOST: u32 = 16384;
 
 /// How many times it is tried to make a lattice smaller by changes of cells.
 const TURNS: u32 = 40;
+
+/// The mask of all inputs.
+const ALL: u16 = 1023;
+
+/// The most rows of a lattice whose cells are drawn at random.
+const ROWS: u32 = 6;
+
+/// The fewest and the most cells of the smallest lattice so far where that is tried.
+const DRAWN: [u32; 2] = [12, 30];
 
 /// Lattices of one function, none of which fits inside another.
 #[derive(Drop)]
@@ -46,6 +55,17 @@ impl Picture for Renamed<'_> {
 /// Whether a shape has no more rows and no more columns than another one.
 fn fits(small: Shape, large: Shape) -> bool {
     small.rows() <= large.rows() && small.cols() <= large.cols()
+}
+
+/// The widest shape of so many rows with fewer cells than so many, if it has two columns at least and is not much wider
+/// than high.
+fn smaller_shape(rows: u32, cells: u32) -> Option<Shape> {
+    let cols = cells.saturating_sub(1) / rows.max(1);
+    if cols >= 2 && cols <= rows.saturating_mul(2) && rows <= cols.saturating_mul(2) {
+        Shape::new(rows, cols)
+    } else {
+        None
+    }
 }
 
 impl Front {
@@ -175,6 +195,40 @@ impl Front {
             }
         }
         Ok(())
+    }
+
+    /// Adds lattices of fewer cells than the smallest one, as far as changes lead to them from cells that are drawn at
+    /// random, so many times for each shape.
+    pub(crate) fn draw(
+        &mut self,
+        tester: &mut Tester,
+        part: &Part,
+        tries: u32,
+    ) -> Result<(), NoMemory> {
+        let mut random = Random::new();
+        let mut rows = 2u32;
+        for _turn in 0..TURNS {
+            if rows > ROWS || self.least() < DRAWN[0] || self.least() > DRAWN[1] {
+                return Ok(());
+            }
+            let found = match smaller_shape(rows, self.least()) {
+                Some(shape) => of_shape(tester, &mut random, part, shape, tries)?,
+                None => None,
+            };
+            match found {
+                Some(grid) => {
+                    self.insert(shrunk(tester, part, grid)?)?;
+                    rows = 2;
+                }
+                None => rows = rows.saturating_add(1),
+            }
+        }
+        Ok(())
+    }
+
+    /// A copy.
+    pub(crate) fn copy(&self, alloc: Global) -> Result<Front, NoMemory> {
+        self.renamed(alloc, ALL)
     }
 
     /// The lattices with the inputs that stand at their inputs' places in the mask.

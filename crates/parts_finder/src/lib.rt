@@ -7,6 +7,7 @@ mod choice;
 mod classes;
 mod front;
 mod join;
+mod memo;
 mod part;
 pub mod parts;
 mod picture;

@@ -4,6 +4,7 @@ ghost use Rattle.finder_set.specs.Finders.{area_of};
 ghost use Rattle.finder_set.specs.Kit.{one_more};
 ghost use Rattle.finder_tools.specs.Proposed.{IsRightBelow};
 
+use crate::memo::Memo;
 use crate::part::Part;
 use crate::solve::{DEPTH, solve};
 use crate::tester::Tester;
@@ -18,7 +19,7 @@ use std::marker::Model;
 use wire_io::fault::NoMemory;
 
 /// How many cells are flooded for a function, each time for 64 assignments.
-const WORK: u64 = 40_000_000;
+const WORK: u64 = 64_000_000;
 
 /// A best lattice of so many cells is left as it is.
 const SMALL: u32 = 2;
@@ -27,7 +28,8 @@ const SMALL: u32 = 2;
 /// of the others; assignments whose functions fit together are a class, each class gives a term of two parts of fewer
 /// inputs, and the lattices of all terms are put together, without a line between them where that does no harm, and folded.
 /// The parts are parted in the same way; lattices of at most five inputs are also changed a cell at a time until they do
-/// with a line less. It proposes the smallest lattice that it finds, where that is right and smaller than the best one.
+/// with a line less, and lattices of other shapes with fewer cells are drawn at random and changed so. It proposes the smallest
+/// lattice that it finds, where that is right and smaller than the best one.
 #[derive(Drop)]
 pub struct PartsFinder {
     alloc: Global,
@@ -63,7 +65,8 @@ fn proposed(alloc: Global, spec: &Spec, best: &Grid) -> Result<Option<Grid>, NoM
         return Ok(None);
     }
     let mut tester = Tester::new(alloc, WORK);
-    let front = solve(&mut tester, &Part::of_spec(spec), DEPTH)?;
+    let mut memo = Memo::new(alloc);
+    let front = solve(&mut tester, &mut memo, &Part::of_spec(spec), DEPTH)?;
     let mut marks = Marks::new(alloc, area)?;
     match front.smallest() {
         Some(grid) => Ok(tested(spec, best, grid, &mut marks)),

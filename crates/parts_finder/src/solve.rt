@@ -6,6 +6,7 @@ use crate::bits::Bits;
 use crate::choice::{Choice, cheapest_of};
 use crate::classes::{Bench, Class, Form, Halves};
 use crate::front::Front;
+use crate::memo::Memo;
 use crate::part::{Part, all_of};
 use crate::shrunk::shrunk;
 use crate::tester::Tester;
@@ -23,6 +24,12 @@ const WAYS: [usize; 2] = [4, 2];
 
 /// How many changes of cells are tried for a lattice at the top, and below it.
 const STEPS: [u32; 2] = [20_000, 1000];
+
+/// How many times the cells of a lattice are drawn at random at the top, and below it.
+const TRIES: [u32; 2] = [8, 4];
+
+/// The fewest inputs of a function for which cells are drawn at random.
+const DRAWN: u8 = 4;
 
 /// How deep parts are parted again.
 pub(crate) const DEPTH: u8 = 10;
@@ -116,22 +123,32 @@ fn ways(tester: &Tester, depth: u8) -> usize {
     }
 }
 
-/// How many changes of cells are tried for a lattice of a function whose parts are parted so deep.
-fn steps(depth: u8) -> u32 {
-    if depth == DEPTH { STEPS[0] } else { STEPS[1] }
+/// How many times the cells of a lattice are drawn at random for a function of so many inputs whose parts are parted so deep.
+fn tries(inputs: u8, depth: u8) -> u32 {
+    if inputs < DRAWN {
+        0
+    } else if depth == DEPTH {
+        TRIES[0]
+    } else {
+        TRIES[1]
+    }
 }
 
 /// Lattices of one term.
 #[cycle(solving)]
 fn of_term(
     tester: &mut Tester,
+    memo: &mut Memo,
     part: &Part,
     choice: Choice,
     term: &Term,
     depth: u8,
 ) -> Result<Front, NoMemory> {
-    let outer = solve(tester, &term.outer, depth)?.renamed(tester.alloc(), choice.chosen)?;
-    let inner = solve(tester, &term.inner, depth)?.renamed(tester.alloc(), choice.rest(part))?;
+    let outer = solve(tester, memo, &term.outer, depth)?.renamed(tester.alloc(), choice.chosen)?;
+    let inner = solve(tester, memo, &term.inner, depth)?.renamed(
+        tester.alloc(),
+        choice.rest(part),
+    )?;
     Front::joined(tester, part, choice.form.other(), &outer, &inner)
 }
 
@@ -139,13 +156,14 @@ fn of_term(
 #[cycle(solving)]
 fn of_terms(
     tester: &mut Tester,
+    memo: &mut Memo,
     part: &Part,
     choice: Choice,
     depth: u8,
 ) -> Result<Front, NoMemory> {
     let mut all: Option<Front> = None;
     for term in &terms(tester.alloc(), part, choice)? {
-        let front = of_term(tester, part, choice, term, depth)?;
+        let front = of_term(tester, memo, part, choice, term, depth)?;
         all = match all {
             None => Some(front),
             Some(before) => Some(Front::joined(tester, part, choice.form, &before, &front)?),
@@ -158,31 +176,57 @@ fn of_terms(
 #[cycle(solving)]
 fn add_parted(
     tester: &mut Tester,
+    memo: &mut Memo,
     part: &Part,
     front: &mut Front,
     depth: u8,
 ) -> Result<(), NoMemory> {
     let most = ways(tester, depth);
     for choice in &cheapest_of(tester, part, most)? {
-        let joined = of_terms(tester, part, *choice, depth)?;
+        let joined = of_terms(tester, memo, part, *choice, depth)?;
         add_shrunk(tester, part, front, joined)?;
     }
     Ok(())
 }
 
+/// Lattices of a function that needs all of its inputs, whose parts are parted so deep.
+#[cycle(solving)]
+fn of_needed(
+    tester: &mut Tester,
+    memo: &mut Memo,
+    part: &Part,
+    depth: u8,
+) -> Result<Front, NoMemory> {
+    if let Some(front) = memo.find(tester.alloc(), part)? {
+        return Ok(front);
+    }
+    let mut front = of_dual(tester, part)?;
+    if depth > 0 && part.inputs >= 3 && front.least() > SMALL {
+        add_parted(tester, memo, part, &mut front, depth - 1)?;
+    }
+    if part.inputs <= INPUTS && front.least() > SMALL {
+        front.anneal(tester, part, STEPS[1])?;
+        front.draw(tester, part, tries(part.inputs, depth))?;
+        if depth == DEPTH {
+            front.anneal(tester, part, STEPS[0])?;
+        }
+    }
+    memo.keep(tester.alloc(), part, &front)?;
+    Ok(front)
+}
+
 /// Lattices of a function, whose parts are parted so deep.
 #[cycle(solving)]
-pub(crate) fn solve(tester: &mut Tester, part: &Part, depth: u8) -> Result<Front, NoMemory> {
+pub(crate) fn solve(
+    tester: &mut Tester,
+    memo: &mut Memo,
+    part: &Part,
+    depth: u8,
+) -> Result<Front, NoMemory> {
     if let Some(control) = part.control() {
         return of_control(tester.alloc(), control);
     }
     let kept = part.reduced();
-    let mut front = of_dual(tester, &kept.part)?;
-    if depth > 0 && kept.part.inputs >= 3 && front.least() > SMALL {
-        add_parted(tester, &kept.part, &mut front, depth - 1)?;
-    }
-    if kept.part.inputs <= INPUTS && front.least() > SMALL {
-        front.anneal(tester, &kept.part, steps(depth))?;
-    }
+    let front = of_needed(tester, memo, &kept.part, depth)?;
     front.renamed(tester.alloc(), kept.mask)
 }
