@@ -1,19 +1,21 @@
 -- The first demand that an answer does not meet.
 use Rattle.std.proofs.Common.{◌≡◌, ℕ, ◌<◌, List, [], ◌∷◌, ◌++◌, length, arith, refl, sym, subst, inl, inr, Some}
-use Rattle.std.specs.Prelude.{IfSome}
+use Rattle.std.specs.Prelude.{IfSome, slice_get, slice_index_or}
 use Rattle.std.proofs.lemmas.Option.{slice_get_within}
 use Rattle.cube_core.specs.Function.{Function}
 use Rattle.lattice_grid.specs.Rectangle.{Size}
-use Rattle.pla_reader.specs.Parts.{IsPla}
+use Rattle.journal_text.specs.Parts.{Part}
+use Rattle.pla_reader.specs.Parts.{Parts, IsPla}
 use Rattle.lattice_grid.specs.Lattice.{Lattice}
 use Rattle.lattice_grid.specs.Rails.{IsOverRails}
 use Rattle.path_meaning.specs.Defective.{RealisesIn}
 use Rattle.path_meaning.specs.Failing.{IsLeastFailureIn, FailsIn}
 use Rattle.report_text.specs.Form.{lattice_of}
-use Rattle.audit_core.specs.Audit.{Claim, IsOf, Demand, demands, Meets, AreMet, IsFirstUnmet, Tells, IsRightAnswer, IsAnswerRefused, array_in}
+use Rattle.audit_core.specs.Audit.{Basis, Claim, IsOf, Demand, demands, Meets, AreMet, IsFirstUnmet, Tells, IsRightAnswer, IsAnswerRefused, array_in}
 use Rattle.audit_core.specs.Audit.Demand.{OfPair, OfLiterals, OfValues, OfArea, OfCover, OfSection, OfProofs}
-use Rattle.audit_core.specs.Sought.{IsNamed, IsNext, AreKept}
-use Rattle.audit_core.specs.Tested.{IsTold}
+use Rattle.audit_core.specs.Sought.{IsNamed, IsNext, Keeps}
+use Rattle.audit_core.specs.Tested.{IsTold, IsBehind, AreAll}
+use Rattle.audit_core.specs.declared.asked.Asked.{Asked}
 use Rattle.audit_core.specs.declared.refusal.AuditRefusal.{AuditRefusal}
 use Rattle.audit_core.specs.declared.refusal.AuditRefusal.TheVariants as refusals
 
@@ -83,10 +85,23 @@ told_behind c f line r met h =
 pub all_are_met : (c : Claim) (f : Function) → IsOf c f → AreMet (Meets c f) (OfPair ∷ OfLiterals ∷ OfValues ∷ OfArea ∷ []) → AreMet (Meets c f) (OfCover ∷ OfSection ∷ OfProofs ∷ []) → IsRightAnswer c
 all_are_met c f of met more = record { function = f; of_output = of; met = (met.0, (met.1.0, (met.1.1.0, (met.1.1.1.0, more)))) }
 
--- the list of an output is there
-pub output_within : (c : Claim) (f : Function) (lists : List (List Size)) → IsPla c.basis.parts → AreKept c.before c.basis.parts.outputs lists → IsOf c f → c.block.output < length lists
-output_within c f lists pla kept of =
-    let within = slice_get_within c.basis.parts.functions c.block.output f of.function in
-    let many = pla.functions in
-    let kept_many = kept.many in
-    omega (arith, within, many, kept_many)
+-- ---- whatever stands before it
+
+-- what is told of the lattice of an answer alone is told of it behind any parts
+pub told_anywhere : (c : Claim) (before : List Part) (f : Function) (line : ℕ) (r : AuditRefusal) → IsTold c f line (OfPair ∷ OfLiterals ∷ OfValues ∷ OfArea ∷ []) r
+    → IsTold (record { basis = c.basis; before = before; block = c.block }) f line (OfPair ∷ OfLiterals ∷ OfValues ∷ OfArea ∷ []) r
+told_anywhere c before f line r h = record { demand = h.demand; first = h.first; tells = h.tells }
+
+pub kept_of : (basis : Basis) (before : List Part) (output : ℕ) (asked : List Asked) (lists : List (List Size)) (list : List Size) → output < length lists → list ≡ slice_index_or lists output [] → AreAll basis before asked lists
+    → IsBehind basis before asked output list
+kept_of basis before output asked lists list within is h = record {
+  right = h.right;
+  sections = h.sections;
+  kept = subst (Keeps before output) (sym is) (h.kept.each output (let many = h.kept.many in omega (arith, many, within)));
+}
+
+pub list_within : (parts : Parts) (output : ℕ) (f : Function) (lists : List (List Size)) → IsPla parts → length lists ≡ parts.outputs → slice_get parts.functions output ≡ Some f → output < length lists
+list_within parts output f lists pla many of =
+    let within = slice_get_within parts.functions output f of in
+    let all = pla.functions in
+    omega (arith, within, all, many)

@@ -1,6 +1,7 @@
 mod RightLaws
 mod StepLaws
 mod SoughtLaws
+mod AskedLaws
 mod ListLaws
 mod SameLaws
 pub mod RefusalLaws
@@ -12,3 +13,4 @@ mod GoodLaws
 mod RenewLaws
 mod RenewedLaws
 mod WrittenLaws
+mod TextLaws

@@ -1,8 +1,8 @@
 -- Arrays are the same where their sizes and their defects are.
-use Rattle.std.proofs.Common.{◌≡◌, ℕ, ◌+◌, ◌*◌, ◌/◌, ◌%◌, ◌<◌, ◌≤◌, length, sym, ap, ◌∙◌, arith, inl, inr}
+use Rattle.std.proofs.Common.{◌≡◌, ℕ, ◌+◌, ◌*◌, ◌/◌, ◌%◌, ◌<◌, ◌≤◌, List, [], ◌∷◌, ◌++◌, take, length, sym, ap, ◌∙◌, arith, inl, inr}
 use Rattle.std.specs.Prelude.{slice_index_or}
 use Rattle.std.proofs.lemmas.Bool.{cases_order}
-use Rattle.std.proofs.lemmas.List.{same_lists, get_or_default}
+use Rattle.std.proofs.lemmas.List.{same_lists, get_or_default, take_more}
 use Rattle.lattice_grid.specs.declared.array.Defect.{Defect}
 use Rattle.lattice_grid.specs.declared.array.Defect.TheVariants.{Sound}
 use Rattle.lattice_grid.specs.declared.shape.Place.{Place}
@@ -37,3 +37,12 @@ cell_more a b s t cell place x y s_is t_is same p place_is x_is y_is e each k w 
       ap (λ n. slice_index_or a.cells n Sound) here ∙ sym first ∙ sym x_is ∙ e ∙ y_is ∙ second ∙ ap (λ n. slice_index_or b.cells n Sound) (sym here)
   | inr other ↦ elim other [ inl less ↦ each k less | inr more ↦ absurd (omega (arith, w, more)) ]
 ]
+
+-- one more cell of a copy
+pub copied_more : (a : Defects) (cells more : List Defect) (s : Size) (cell end : ℕ) (place : Place) (d : Defect) → s ≡ a.size → IsArray a → end ≡ s.rows * s.cols → cell < end → place ≡ record { row = cell / s.cols; col = cell % s.cols }
+    → d ≡ defect_at a place → cells ≡ take cell a.cells → more ≡ cells ++ d ∷ [] → more ≡ take (cell + 1) a.cells
+copied_more a cells more s cell end place d s_is p end_is within place_is d_is earlier e =
+    let some : 1 ≤ s.cols = (let c = p.some_cols in let f = ap (λ (z : Size). z.cols) s_is in omega (arith, c, f)) in
+    let whole : length a.cells ≡ end = p.whole ∙ ap (λ (z : Size). z.rows * z.cols) (sym s_is) ∙ sym end_is in
+    let here : defect_at a place ≡ slice_index_or a.cells cell Sound = defect_of a cell s.rows s.cols place some (ap (λ (z : Size). z.cols) (sym s_is)) (ap (λ (z : Place). z.row) place_is) (ap (λ (z : Place). z.col) place_is) in
+    e ∙ ap (λ l. l ++ d ∷ []) earlier ∙ ap (λ x. take cell a.cells ++ x ∷ []) (d_is ∙ here) ∙ sym (take_more a.cells cell Sound (omega (arith, within, whole)))

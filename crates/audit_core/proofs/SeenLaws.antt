@@ -3,7 +3,7 @@ use Rattle.std.proofs.Common.{◌≡◌, ◌≢◌, ℕ, suc, ◌+◌, ◌<◌, 
 use Rattle.std.specs.Prelude.{All, slice_index_or}
 use Rattle.std.proofs.lemmas.Bool.{cases_order}
 use Rattle.std.proofs.lemmas.List.{take-append-drop, length-map, get_or_append_left, get_or_push, get_or-set_same, get_or-set_other, get_or-map, length-set}
-use Rattle.std.proofs.lemmas.List.Elements.{All-push, All-pop, All-head, All-tail}
+use Rattle.std.proofs.lemmas.List.Elements.{All-nil, All-push, All-pop, All-head, All-tail}
 use Rattle.lattice_grid.specs.Rectangle.{Size}
 use Rattle.report_text.specs.Report.{BlockParts}
 use Rattle.journal_text.specs.Parts.{Section, Part, Question, Answered, JournalParts, size_of, part_of}
@@ -18,7 +18,11 @@ use Rattle.report_text.specs.declared.answer.Version.{Version}
 use Rattle.audit_core.specs.Audit.{Basis, IsBelow, IsRightPart, AreRight, IsKindRefused, HasRefused}
 use Rattle.audit_core.specs.Confirmed.{confirmed_from}
 use Rattle.audit_core.specs.Sought.{IsWholeOf, IsSection, IsNext, Keeps, AreKept}
+use Rattle.audit_core.specs.Seen.{IsSeen}
+use Rattle.audit_core.specs.Tested.{AreAll}
+use Rattle.audit_core.specs.declared.asked.Asked.{Asked}
 use Rattle.audit_core.specs.declared.audit.Confirmed.{Confirmed}
+use Rattle.audit_core.specs.declared.part.Seen.{Seen}
 use Rattle.audit_core.specs.declared.refusal.AuditRefusal.{AuditRefusal}
 use Rattle.audit_core.proofs.RefusalLaws.{shorter, same_front}
 use Rattle.audit_core.proofs.SoughtLaws.{keeps_none, keeps_same, keeps_more}
@@ -127,7 +131,7 @@ part_some v (Question s) h =
     omega (arith, some, length-append (question_text s.output s.target) (steps_text s.steps ++ close_text s.close))
 part_some v (Answered b) h = item_some (PartOrEnd v) (AnswerItem v b) (refl, h.0, h.1)
 
-many_parts : (v : Version) (parts : List Part) → All (IsPart v) parts → length parts ≤ length (parts_text v parts)
+pub many_parts : (v : Version) (parts : List Part) → All (IsPart v) parts → length parts ≤ length (parts_text v parts)
 many_parts v [] h = omega arith
 many_parts v (p ∷ parts) h =
     let some = part_some v p (All-head (IsPart v) p parts h) in
@@ -159,13 +163,26 @@ refused_here basis parts i p r within is right refused = record {
 pub kept_answer : (before : List Part) (block : BlockParts) (outputs : ℕ) (lists : List (List Size)) → AreKept before outputs lists → AreKept (before ++ Answered block ∷ []) outputs lists
 kept_answer before block outputs lists h = record { many = h.many; each = λ k w. keeps_same before (Answered block) k (slice_index_or lists k []) (λ whole. whole) (h.each k w) }
 
-pub answer_confirmed : (before : List PartRead) (block : BlockParts) (old new : List Confirmed) (entry : Confirmed) → old ≡ confirmed_from 0 (map part_of before) → new ≡ old ++ entry ∷ [] → entry.output ≡ block.output → entry.part ≡ length before
-    → new ≡ confirmed_from 0 (map part_of before ++ Answered block ∷ [])
+pub answer_confirmed : (before : List Part) (block : BlockParts) (old new : List Confirmed) (entry : Confirmed) → old ≡ confirmed_from 0 before → new ≡ old ++ entry ∷ [] → entry.output ≡ block.output → entry.part ≡ length before
+    → new ≡ confirmed_from 0 (before ++ Answered block ∷ [])
 answer_confirmed before block old new entry earlier now output place =
-    now ∙ ap (λ l. l ++ entry ∷ []) earlier ∙ ap (λ (e : Confirmed). confirmed_from 0 (map part_of before) ++ e ∷ []) (λ i. record { output = output i; part = there i })
-    ∙ sym (confirmed_answer 0 (map part_of before) block) where
-      there : entry.part ≡ 0 + length (map part_of before)
-      there = place ∙ (let n = length-map before part_of in omega (arith, n))
+    now ∙ ap (λ l. l ++ entry ∷ []) earlier ∙ ap (λ (e : Confirmed). confirmed_from 0 before ++ e ∷ []) (λ i. record { output = output i; part = there i })
+    ∙ sym (confirmed_answer 0 before block) where
+      there : entry.part ≡ 0 + length before
+      there = omega (arith, place)
+
+pub one_more_part : (before : List Part) (p : Part) (many : ℕ) → many ≡ length before → many + 1 ≡ length (before ++ p ∷ [])
+one_more_part before p many e = omega (arith, e, length-append before (p ∷ []))
+
+pub all_of : (basis : Basis) (before : List Part) (seen : Seen) (asked : List Asked) (refuted : List (List Size)) → asked ≡ seen.asked.items → refuted ≡ seen.refuted.items → IsSeen basis before seen → AreAll basis before asked refuted
+all_of basis before seen asked refuted a r h = record { right = h.right; sections = a ∙ h.asked; kept = subst (AreKept before basis.parts.outputs) (sym r) h.kept }
+
+-- before any part
+pub right_none : (basis : Basis) → AreRight basis []
+right_none basis before part later whole = let n = ap length whole in absurd (omega (arith, n, length-append before (part ∷ later)))
+
+pub next_none : IsNext [] 0
+next_none output = (λ h. omega arith, λ h. All-nil (IsBelow output))
 
 pub part_bounds : (v : Version) (parts : List PartRead) (i : ℕ) (p : PartRead) → i < length parts → p ≡ get_or parts i p → All (IsPart v) (map part_of parts) → IsPart v (part_of p)
 part_bounds v parts i p within is h =

@@ -10,7 +10,7 @@ use Rattle.report_text.specs.declared.answer.Proof.{Proof}
 use Rattle.shape_list.specs.Shapes.{IsCoveredBelow}
 use Rattle.journal_text.specs.Good.{Lists, ListsFirst}
 use Rattle.journal_text.specs.Parts.{Section, Part, Question, Answered, size_of, array_of}
-use Rattle.journal_text.specs.Proved.{HasWhole, HasMarked}
+use Rattle.journal_text.specs.Proved.{HasMarked}
 use Rattle.journal_text.specs.declared.target.Close.{Close}
 use Rattle.journal_text.specs.declared.target.Close.TheVariants.{Refuted, Spent, Satisfied}
 use Rattle.journal_text.specs.declared.target.Target.{Target}
@@ -18,21 +18,21 @@ use Rattle.journal_text.specs.declared.target.Target.TheVariants.{Whole, Marked}
 use Rattle.lattice_grid.specs.declared.array.Defect.{Defect}
 use Rattle.lattice_grid.specs.declared.array.Defect.TheVariants.{Sound, StuckOpen, StuckClosed}
 use Rattle.audit_core.specs.Audit.{IsExcluded, AreExcluded}
-use Rattle.audit_core.specs.Sought.{IsWholeOf, IsMarkedOf, IsSizedOf, IsSection, proof_of, Keeps}
+use Rattle.audit_core.specs.Sought.{IsWholeOf, IsMarkedOf, IsSection, proof_of, Keeps}
 
 -- ---- some element
 
-Any_head : {X : Type 0} (P : X → Type 0) (x : X) (xs : List X) → P x → Any P (x ∷ xs)
+pub Any_head : {X : Type 0} (P : X → Type 0) (x : X) (xs : List X) → P x → Any P (x ∷ xs)
 Any_head P x xs p = (0, x, omega arith, refl, p)
 
-Any_later : {X : Type 0} (P : X → Type 0) (x : X) (xs : List X) → Any P xs → Any P (x ∷ xs)
+pub Any_later : {X : Type 0} (P : X → Type 0) (x : X) (xs : List X) → Any P xs → Any P (x ∷ xs)
 Any_later P x xs (k, y, w, e, p) = (suc k, y, omega (arith, w), e, p)
 
-Any_cases : {X : Type 0} (P : X → Type 0) (x : X) (xs : List X) → Any P (x ∷ xs) → P x ⊎ Any P xs
+pub Any_cases : {X : Type 0} (P : X → Type 0) (x : X) (xs : List X) → Any P (x ∷ xs) → P x ⊎ Any P xs
 Any_cases P x xs (zero, y, w, e, p) = inl (subst P (sym e) p)
 Any_cases P x xs (suc k, y, w, e, p) = inr (k, y, omega (arith, w), e, p)
 
-Any_none : {X : Type 0} (P : X → Type 0) → Any P [] → ⊥
+pub Any_none : {X : Type 0} (P : X → Type 0) → Any P [] → ⊥
 Any_none P (k, y, w, e, p) = absurd (omega (arith, w))
 
 pub Any_map : {X Y : Type 0} (f : X → Y) (P : Y → Type 0) (xs : List X) → Any (λ x. P (f x)) xs ↔ Any P (map f xs)
@@ -59,13 +59,6 @@ some_section Holds parts = (
   λ h. (h.is_in.0, Question h.section, h.is_in.1, h.is_in.2, h.holds),
 )
 
-pub has_whole_so : (parts : List Part) (output : ℕ) (size : Size) (close : Close) → Any (IsSection (IsSizedOf output size close)) parts ↔ HasWhole parts output size (λ q. q.close ≡ close)
-has_whole_so parts output size close =
-    let some = some_section (IsSizedOf output size close) parts in (
-      λ h. let s = some.0 h in record { section = s.section; is_in = s.is_in; of_output = s.holds.whole.of_output; size_is = s.holds.size_is; no_array = s.holds.whole.no_array; holds = s.holds.whole.closes },
-      λ h. some.1 (record { section = h.section; is_in = h.is_in; holds = record { whole = record { of_output = h.of_output; no_array = h.no_array; closes = h.holds }; size_is = h.size_is } }),
-    )
-
 pub has_marked_so : (parts : List Part) (output : ℕ) (array : Defects) (close : Close) → Any (IsSection (IsMarkedOf output array close)) parts ↔ HasMarked parts output array (λ q. q.close ≡ close)
 has_marked_so parts output array close =
     let some = some_section (IsMarkedOf output array close) parts in (
@@ -73,25 +66,25 @@ has_marked_so parts output array close =
       λ h. some.1 (record { section = h.section; is_in = h.is_in; holds = record { of_output = h.of_output; array_is = h.array_is; closes = h.holds } }),
     )
 
-first_in : {X : Type 0} (x : X) (xs : List X) → Contains (x ∷ xs) x
+pub first_in : {X : Type 0} (x : X) (xs : List X) → Contains (x ∷ xs) x
 first_in x xs = (0, omega arith, refl)
 
-later_in : {X : Type 0} (y : X) (xs : List X) (x : X) → Contains xs x → Contains (y ∷ xs) x
+pub later_in : {X : Type 0} (y : X) (xs : List X) (x : X) → Contains xs x → Contains (y ∷ xs) x
 later_in y xs x (k, w, e) = (suc k, omega (arith, w), e)
 
 -- ---- lists of proofs
 
-no_cons : {X : Type 0} (x : X) (xs : List X) → [] ≡ x ∷ xs → ⊥
+pub no_cons : {X : Type 0} (x : X) (xs : List X) → [] ≡ x ∷ xs → ⊥
 no_cons x xs e = let n = ap length e in absurd (omega (arith, n))
 
 pub lists_skip : (Counts : Section → Type 0) (p : Part) (parts : List Part) (proofs : List Proof) → (IsSection Counts p → ⊥) → Lists Counts (p ∷ parts) proofs ↔ Lists Counts parts proofs
 lists_skip Counts (Question s) parts proofs not = (λ h. elim h [ inl k ↦ absurd (not k.0) | inr k ↦ k.1 ], λ h. inr (not, h))
 lists_skip Counts (Answered block) parts proofs not = (λ h. h, λ h. h)
 
-tail_of : {X : Type 0} (x y : X) (xs ys : List X) → x ∷ xs ≡ y ∷ ys → xs ≡ ys
+pub tail_of : {X : Type 0} (x y : X) (xs ys : List X) → x ∷ xs ≡ y ∷ ys → xs ≡ ys
 tail_of x y xs ys e = ap (drop 1) e
 
-head_of : {X : Type 0} (x y : X) (xs ys : List X) → x ∷ xs ≡ y ∷ ys → x ≡ y
+pub head_of : {X : Type 0} (x y : X) (xs ys : List X) → x ∷ xs ≡ y ∷ ys → x ≡ y
 head_of x y xs ys e = ap (λ l. get_or l 0 x) e
 
 pub lists_differ : (Counts : Section → Type 0) (s : Section) (parts : List Part) (proof : Proof) (later : List Proof) → Counts s → Lists Counts (Question s ∷ parts) (proof ∷ later) → proof ≡ proof_of s

@@ -1,9 +1,11 @@
 pub mod Audit
+pub mod Bare
 pub mod Confirmed
 pub mod Laws
 pub mod Renewed
 pub mod Listing
 pub mod Replayed
 pub mod Seen
+pub mod Streamed
 pub mod Sought
 pub mod Tested

@@ -1,22 +1,22 @@
 //! Answers are tested.
-ghost use Rattle.std.specs.Prelude.{◌≡◌, ◌≢◌, ◌↔◌, ℕ, List, [], ◌∷◌, IsTrue, OnOk, IfErr, MatchOption, map, slice_get, Some};
+ghost use Rattle.std.specs.Prelude.{◌≡◌, ◌≢◌, ◌↔◌, ℕ, List, [], ◌∷◌, IsTrue, OnOk, IfErr, MatchOption, length, slice_get, Some};
 ghost use Rattle.std.specs.Option.{option_copied};
 ghost use Rattle.cube_core.specs.Function.{Function};
 ghost use Rattle.pla_reader.specs.Parts.{parts_of, IsPla};
 ghost use Rattle.report_text.specs.Bounds.{IsAnswer};
 ghost use Rattle.report_text.specs.Report.{parts_of_block};
-ghost use Rattle.journal_text.specs.Parts.{Part as Told, part_of};
-ghost use Rattle.audit_core.specs.Audit.{array_in, IsCovered, HasSection, AreRight, Meets, AreMet, IsRightAnswer, IsAnswerRefused};
+ghost use Rattle.journal_text.specs.Parts.{Part as Told};
+ghost use Rattle.audit_core.specs.Audit.{array_in, IsCovered, HasSection, Meets, AreMet, IsRightAnswer, IsAnswerRefused};
 ghost use Rattle.audit_core.specs.Audit.Demand.{OfPair, OfLiterals, OfValues, OfArea, OfCover, OfSection, OfProofs};
-ghost use Rattle.audit_core.specs.Sought.{IsNamed, IsNext, Keeps, AreKept, ListsClosed, ListsClosedIn};
-ghost use Rattle.audit_core.specs.Tested.{basis_in, claim_in, IsTold};
+ghost use Rattle.audit_core.specs.Bare.{asked_in};
+ghost use Rattle.audit_core.specs.Sought.{IsNamed, IsNext, Keeps, ListsClosed, ListsClosedIn};
+ghost use Rattle.audit_core.specs.Tested.{basis_in, claim_in, claim_behind, IsTold, IsBehind, AreAll};
 ghost use Rattle.audit_core.specs.declared.refusal.AuditRefusal.{AuditRefusal};
 
+use crate::asked::{Asked, has_marked, has_whole, lists_marked, lists_whole};
 use crate::begin::{has_pair, is_small};
-use crate::lists::{has_marked, has_whole, lists_marked, lists_whole};
 use crate::refusal::AuditRefusal;
 use cube_core::spec::Spec;
-use journal_text::journal::Part;
 use journal_text::target::Close;
 use lattice_grid::array::Array;
 use lattice_grid::rails::Rails;
@@ -35,10 +35,10 @@ pub(crate) struct Basis<'a> {
     pub(crate) rails: Rails,
 }
 
-/// An answer that begins on a line, and the parts before it.
+/// An answer that begins on a line, and the sections before it.
 #[derive(Drop)]
 pub(crate) struct Claim<'a> {
-    pub(crate) before: &'a [Part],
+    pub(crate) asked: &'a [Asked],
     pub(crate) block: &'a Block,
     pub(crate) line: u32,
 }
@@ -120,14 +120,14 @@ fn is_covered(refuted: &Refuted, answer: &Answer) -> bool
 }
 
 /// Whether the section that an answer speaks of stands among the parts before it.
-fn has_section(before: &[Part], output: u32, answer: &Answer) -> bool
-    ensures { IsTrue result ↔ HasSection (map part_of before.now) output answer.now }
+fn has_section(asked: &[Asked], output: u32, answer: &Answer) -> bool
+    ensures { (before : List Told) → asked.now ≡ asked_in before → IsTrue result ↔ HasSection before output answer.now }
 {
     match answer {
-        Answer::Undecided { at, after, .. } => has_whole(before, output, *at, Close::Spent(*after)),
-        Answer::NoneMapped { array } => has_marked(before, output, array, Close::Refuted),
+        Answer::Undecided { at, after, .. } => has_whole(asked, output, *at, Close::Spent(*after)),
+        Answer::NoneMapped { array } => has_marked(asked, output, array, Close::Refuted),
         Answer::MapUndecided { array, after } => has_marked(
-            before,
+            asked,
             output,
             array,
             Close::Spent(*after),
@@ -138,12 +138,12 @@ fn has_section(before: &[Part], output: u32, answer: &Answer) -> bool
 }
 
 /// Whether the proofs of an answer are those of the sections before it that close as refuted.
-fn lists(before: &[Part], output: u32, answer: &Answer, proofs: &[Proof]) -> bool
-    ensures { IsTrue result ↔ ListsClosed output (map part_of before.now) answer.now proofs.now }
+fn lists(asked: &[Asked], output: u32, answer: &Answer, proofs: &[Proof]) -> bool
+    ensures { (before : List Told) → asked.now ≡ asked_in before → IsTrue result ↔ ListsClosed output before answer.now proofs.now }
 {
     match answer {
-        Answer::Minimum(_) | Answer::Undecided { .. } => lists_whole(before, output, proofs),
-        Answer::NoneMapped { array } => lists_marked(before, output, array, proofs),
+        Answer::Minimum(_) | Answer::Undecided { .. } => lists_whole(asked, output, proofs),
+        Answer::NoneMapped { array } => lists_marked(asked, output, array, proofs),
         Answer::Found(_)
         | Answer::Mapped { .. }
         | Answer::MapUndecided { .. }
@@ -152,12 +152,12 @@ fn lists(before: &[Part], output: u32, answer: &Answer, proofs: &[Proof]) -> boo
 }
 
 /// Whether an answer lists its proofs, in a version in which it has to.
-fn lists_proofs(version: Version, before: &[Part], block: &Block) -> bool
-    ensures { IsTrue result ↔ ListsClosedIn version block.now.output (map part_of before.now) block.now.answer block.now.proofs.items }
+fn lists_proofs(version: Version, asked: &[Asked], block: &Block) -> bool
+    ensures { (before : List Told) → asked.now ≡ asked_in before → IsTrue result ↔ ListsClosedIn version block.now.output before block.now.answer block.now.proofs.items }
 {
     match version {
         Version::One => true,
-        Version::Two => lists(before, block.output, &block.answer, &block.proofs),
+        Version::Two => lists(asked, block.output, &block.answer, &block.proofs),
     }
 }
 
@@ -168,22 +168,22 @@ fn test_sections(
     refuted: &Refuted,
 ) -> Result<(), AuditRefusal>
     requires answer { IsAnswer claim.now.block.now.answer }
-    requires right { AreRight (basis_in basis.now) (map part_of claim.now.before.now) }
-    requires kept { Keeps (map part_of claim.now.before.now) claim.now.block.now.output refuted.now }
-    ensures met { OnOk result ((f : Function) → slice_get (parts_of basis.now.pla.now).functions claim.now.block.now.output ≡ Some f
-        → AreMet (Meets (claim_in basis.now claim.now) f) (OfCover ∷ OfSection ∷ OfProofs ∷ [])) }
-    ensures told { IfErr result (λ refusal. (f : Function) → slice_get (parts_of basis.now.pla.now).functions claim.now.block.now.output ≡ Some f
-        → IsTold (claim_in basis.now claim.now) f claim.now.line (OfCover ∷ OfSection ∷ OfProofs ∷ []) refusal) }
+    ensures met { OnOk result ((before : List Told) → IsBehind (basis_in basis.now) before claim.now.asked.now claim.now.block.now.output refuted.now
+        → (f : Function) → slice_get (parts_of basis.now.pla.now).functions claim.now.block.now.output ≡ Some f
+        → AreMet (Meets (claim_behind basis.now claim.now before) f) (OfCover ∷ OfSection ∷ OfProofs ∷ [])) }
+    ensures told { IfErr result (λ refusal. (before : List Told) → IsBehind (basis_in basis.now) before claim.now.asked.now claim.now.block.now.output refuted.now
+        → (f : Function) → slice_get (parts_of basis.now.pla.now).functions claim.now.block.now.output ≡ Some f
+        → IsTold (claim_behind basis.now claim.now before) f claim.now.line (OfCover ∷ OfSection ∷ OfProofs ∷ []) refusal) }
 {
     let line = claim.line;
     let block = claim.block;
     if !is_covered(refuted, &block.answer) {
         return Err(AuditRefusal::Uncovered { line });
     }
-    if !has_section(claim.before, block.output, &block.answer) {
+    if !has_section(claim.asked, block.output, &block.answer) {
         return Err(AuditRefusal::NoSection { line });
     }
-    if !lists_proofs(basis.version, claim.before, block) {
+    if !lists_proofs(basis.version, claim.asked, block) {
         return Err(AuditRefusal::Proofs { line });
     }
     Ok(())
@@ -224,11 +224,10 @@ pub(crate) fn test_answer(
 ) -> Result<(), AuditRefusal>
     requires pla { IsPla (parts_of basis.now.pla.now) }
     requires answer { IsAnswer claim.now.block.now.answer }
-    requires right { AreRight (basis_in basis.now) (map part_of claim.now.before.now) }
-    requires next { IsNext (map part_of claim.now.before.now) least }
-    requires kept { AreKept (map part_of claim.now.before.now) (parts_of basis.now.pla.now).outputs refuted.now }
-    ensures right { OnOk result (IsRightAnswer (claim_in basis.now claim.now)) }
-    ensures refused { IfErr result (λ refusal. refusal ≢ AuditRefusal.NoMemory → IsAnswerRefused (claim_in basis.now claim.now) claim.now.line refusal) }
+    requires lists { length refuted.now ≡ (parts_of basis.now.pla.now).outputs }
+    ensures right { OnOk result ((before : List Told) → IsNext before least → AreAll (basis_in basis.now) before claim.now.asked.now refuted.now → IsRightAnswer (claim_behind basis.now claim.now before)) }
+    ensures refused { IfErr result (λ refusal. refusal ≢ AuditRefusal.NoMemory → (before : List Told) → IsNext before least → AreAll (basis_in basis.now) before claim.now.asked.now refuted.now
+        → IsAnswerRefused (claim_behind basis.now claim.now before) claim.now.line refusal) }
 {
     let Some(spec) = function_of(basis.pla, claim.block, least) else {
         return Err(AuditRefusal::Output { line: claim.line });

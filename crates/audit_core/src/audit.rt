@@ -38,8 +38,8 @@ fn test_parts(
     ensures refused { IfErr result (λ refusal. refusal ≢ AuditRefusal.NoMemory → HasRefused (basis_in basis.now) parts.now refusal) }
 {
     let mut seen = Seen::new(alloc, basis.pla.specs.len())?;
-    for (place, part) in parts.iter().enumerate() {
-        if let Err(refusal) = seen.take(alloc, basis, &parts[..place], part) {
+    for part in parts {
+        if let Err(refusal) = seen.take(alloc, basis, part) {
             return Err(refusal);
         }
     }

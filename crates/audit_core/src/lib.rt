@@ -2,6 +2,7 @@
 #![tactic(auto)]
 
 mod answer;
+mod asked;
 pub mod audit;
 mod begin;
 pub mod laws;
@@ -13,3 +14,4 @@ mod same;
 mod section;
 #[cfg(test)]
 mod tests;
+pub mod text;

@@ -1,15 +1,16 @@
 //! Parts are tested one after the other.
-ghost use Rattle.std.specs.Prelude.{◌≡◌, ◌≢◌, ℕ, ◌+◌, ◌<◌, ◌^◌, List, [], ◌∷◌, ◌++◌, OnOk, IfOk, IfErr, length, map, vec_len};
+ghost use Rattle.std.specs.Prelude.{◌≡◌, ◌≢◌, ℕ, ◌+◌, ◌<◌, ◌^◌, List, [], ◌∷◌, ◌++◌, OnOk, IfOk, IfErr, vec_len};
 ghost use Rattle.pla_reader.specs.Parts.{parts_of, IsPla};
 ghost use Rattle.journal_text.specs.Bounds.{IsPart};
 ghost use Rattle.journal_text.specs.Parts.{Part as Told, part_of};
-ghost use Rattle.audit_core.specs.Audit.{IsKindRefused};
+ghost use Rattle.audit_core.specs.Audit.{Basis as Tests, IsKindRefused};
 ghost use Rattle.audit_core.specs.Sought.{IsSection, AreKept};
 ghost use Rattle.audit_core.specs.Seen.{IsSeen};
 ghost use Rattle.audit_core.specs.Tested.{basis_in};
 ghost use Rattle.audit_core.specs.declared.refusal.AuditRefusal.{AuditRefusal};
 
 use crate::answer::{Basis, Claim, test_answer};
+use crate::asked::{Asked, without_steps};
 use crate::audit::Confirmed;
 use crate::lists::{shape_of, whole_section};
 use crate::refusal::AuditRefusal;
@@ -22,11 +23,13 @@ use std::alloc::Global;
 use wire_io::fault::NoMemory;
 
 /// What is kept of parts that are right: the least output that the next answer may be for, the shapes that were
-/// refuted of each output, and the answers.
+/// refuted of each output, the sections without their steps, how many parts there are, and the answers.
 #[derive(Drop)]
 pub(crate) struct Seen {
     pub(crate) least: u32,
     pub(crate) refuted: Vec<Refuted>,
+    pub(crate) asked: Vec<Asked>,
+    pub(crate) many: u32,
     pub(crate) confirmed: Vec<Confirmed>,
 }
 
@@ -56,13 +59,13 @@ fn keep(refuted: &mut Vec<Refuted>, part: &Part, output: u32) -> Result<(), NoMe
 impl Seen {
     /// Nothing.
     pub(crate) fn new(alloc: Global, outputs: usize) -> Result<Seen, NoMemory>
-        ensures least { IfOk result (λ seen. seen.least ≡ 0) }
-        ensures refuted { IfOk result (λ seen. AreKept [] outputs seen.refuted.items) }
-        ensures confirmed { IfOk result (λ seen. seen.confirmed.items ≡ []) }
+        ensures { IfOk result (λ seen. (basis : Tests) → basis.parts.outputs ≡ outputs → IsSeen basis [] seen) }
     {
         Ok(Seen {
             least: 0,
             refuted: empty_lists(alloc, outputs)?,
+            asked: Vec::new(alloc),
+            many: 0,
             confirmed: Vec::new(alloc),
         })
     }
@@ -79,6 +82,7 @@ impl Seen {
         requires what { part.now.what ≡ PartKind.Question section.now }
         requires bounds { IsPart basis.now.version (part_of part.now) }
         requires lists { vec_len self.old.refuted ≡ basis.now.pla.now.outputs }
+        requires few { self.old.many + 1 < 2 ^ 32 }
         ensures ok { OnOk result ((before : List Told) → IsSeen (basis_in basis.now) before self.old → IsSeen (basis_in basis.now) (before ++ part_of part.now ∷ []) self.new) }
         ensures refused { IfErr result (λ refusal. refusal ≢ AuditRefusal.NoMemory → (before : List Told) → IsKindRefused (basis_in basis.now) before part.now.line part.now.what refusal) }
     {
@@ -86,6 +90,8 @@ impl Seen {
             return Err(refusal);
         }
         keep(&mut self.refuted, part, section.output)?;
+        self.asked.push(without_steps(alloc, section)?)?;
+        self.many += 1;
         Ok(())
     }
 
@@ -94,31 +100,31 @@ impl Seen {
         &mut self,
         alloc: Global,
         basis: &Basis<'_>,
-        before: &[Part],
         part: &Part,
         block: &Block,
     ) -> Result<(), AuditRefusal>
         requires pla { IsPla (parts_of basis.now.pla.now) }
         requires what { part.now.what ≡ PartKind.Answer block.now }
         requires bounds { IsPart basis.now.version (part_of part.now) }
-        requires few { length before.now < 2 ^ 32 }
-        requires seen { IsSeen (basis_in basis.now) (map part_of before.now) self.old }
-        ensures ok { OnOk result (IsSeen (basis_in basis.now) (map part_of before.now ++ part_of part.now ∷ []) self.new) }
-        ensures refused { IfErr result (λ refusal. refusal ≢ AuditRefusal.NoMemory → IsKindRefused (basis_in basis.now) (map part_of before.now) part.now.line part.now.what refusal) }
+        requires lists { vec_len self.old.refuted ≡ basis.now.pla.now.outputs }
+        requires few { self.old.many + 1 < 2 ^ 32 }
+        ensures ok { OnOk result ((before : List Told) → IsSeen (basis_in basis.now) before self.old → IsSeen (basis_in basis.now) (before ++ part_of part.now ∷ []) self.new) }
+        ensures refused { IfErr result (λ refusal. refusal ≢ AuditRefusal.NoMemory → (before : List Told) → IsSeen (basis_in basis.now) before self.old → IsKindRefused (basis_in basis.now) before part.now.line part.now.what refusal) }
     {
         let claim = Claim {
-            before,
+            asked: &self.asked,
             block,
             line: part.line,
         };
         if let Err(refusal) = test_answer(alloc, basis, &claim, self.least, &self.refuted) {
             return Err(refusal);
         }
-        self.least = block.output + 1;
         self.confirmed.push(Confirmed {
             output: block.output,
-            part: before.len() as u32,
+            part: self.many,
         })?;
+        self.least = block.output + 1;
+        self.many += 1;
         Ok(())
     }
 
@@ -127,19 +133,18 @@ impl Seen {
         &mut self,
         alloc: Global,
         basis: &Basis<'_>,
-        before: &[Part],
         part: &Part,
     ) -> Result<(), AuditRefusal>
         requires pla { IsPla (parts_of basis.now.pla.now) }
         requires bounds { IsPart basis.now.version (part_of part.now) }
-        requires few { length before.now < 2 ^ 32 }
-        requires seen { IsSeen (basis_in basis.now) (map part_of before.now) self.old }
-        ensures ok { OnOk result (IsSeen (basis_in basis.now) (map part_of before.now ++ part_of part.now ∷ []) self.new) }
-        ensures refused { IfErr result (λ refusal. refusal ≢ AuditRefusal.NoMemory → IsKindRefused (basis_in basis.now) (map part_of before.now) part.now.line part.now.what refusal) }
+        requires lists { vec_len self.old.refuted ≡ basis.now.pla.now.outputs }
+        requires few { self.old.many + 1 < 2 ^ 32 }
+        ensures ok { OnOk result ((before : List Told) → IsSeen (basis_in basis.now) before self.old → IsSeen (basis_in basis.now) (before ++ part_of part.now ∷ []) self.new) }
+        ensures refused { IfErr result (λ refusal. refusal ≢ AuditRefusal.NoMemory → (before : List Told) → IsSeen (basis_in basis.now) before self.old → IsKindRefused (basis_in basis.now) before part.now.line part.now.what refusal) }
     {
         match &part.what {
             PartKind::Question(section) => self.take_question(alloc, basis, part, section),
-            PartKind::Answer(block) => self.take_answer(alloc, basis, before, part, block),
+            PartKind::Answer(block) => self.take_answer(alloc, basis, part, block),
         }
     }
 }

@@ -2,6 +2,7 @@
 ghost use Rattle.std.specs.Prelude.{◌≡◌};
 
 use cube_core::assign::Assign;
+use journal_text::refusal::JournalRefusal;
 use lrat_replay::fault::StepFault;
 use std::alloc::AllocFailed;
 use wire_io::fault::NoMemory as OutOfMemory;
@@ -33,6 +34,15 @@ pub enum AuditRefusal {
     Proofs { line: u32 },
     /// There was no memory.
     NoMemory,
+}
+
+/// Why the text of a journal is not right for a PLA.
+#[derive(Clone, Copy, Debug, PartialEq, Eq)]
+pub enum TextRefusal {
+    /// It is not the text of a journal.
+    Form(JournalRefusal),
+    /// It is, and the journal is not right.
+    Audit(AuditRefusal),
 }
 
 impl From<OutOfMemory> for AuditRefusal {

@@ -3,9 +3,11 @@ ghost use Rattle.journal_text.specs.Parts.{parts_of_journal};
 ghost use Rattle.journal_text.specs.Text.{journal_text};
 
 use crate::audit::{Confirmed, audit};
-use crate::refusal::AuditRefusal;
+use crate::refusal::{AuditRefusal, TextRefusal};
+use crate::text;
 use cube_core::assign::Assign;
 use journal_text::read::read_journal;
+use journal_text::refusal::JournalRefusal;
 use lrat_replay::fault::StepFault;
 use pla_reader::pla::read_pla;
 use std::alloc::Global;
@@ -188,5 +190,58 @@ fn the_first_version(rt: HostRuntime) -> Result<(), Fail> {
     let least = "output 0 f0 minimum 2x1\nx0\nx1\n";
     let answer = only_answer(rt, BOTH, &["lattice journal 1\n", ONE_CELL, least])?;
     assert_eq!(rt; answer, Confirmed { output: 0, part: 1 });
+    Ok(())
+}
+
+/// What an audit of a text comes to as it is read.
+fn as_it_is_read(
+    alloc: Global,
+    pla: &[u8],
+    text: &[u8],
+) -> Result<Result<Vec<Confirmed>, TextRefusal>, Fail> {
+    let Ok(pla) = read_pla(alloc, pla) else {
+        return Err(Fail::from("the text is no PLA"));
+    };
+    if text.len() > 536_870_912 {
+        return Err(Fail::from("the journal is too long"));
+    }
+    Ok(text::audit_text(alloc, &pla, text))
+}
+
+#[test]
+fn a_text_that_is_right(rt: HostRuntime) -> Result<(), Fail> {
+    let text = b"lattice journal 2\nrails 0\noutput 0 f0 norails 1 0\nend\n";
+    let found = as_it_is_read(rt.alloc(), ONE, text)?
+        .ok()
+        .ok_or("it is refused")?;
+    assert_eq!(rt; found.len(), 1);
+    assert_eq!(rt; found[0], Confirmed { output: 0, part: 0 });
+    Ok(())
+}
+
+#[test]
+fn a_text_with_a_part_that_is_not_right(rt: HostRuntime) -> Result<(), Fail> {
+    let text =
+        b"lattice journal 2\nrails 0\noutput 0 f0 norails 0 1\nquestion 0 1x1\nsatisfied\nend\n";
+    let refusal = as_it_is_read(rt.alloc(), ONE, text)?
+        .err()
+        .ok_or("it is right")?;
+    assert_eq!(rt;
+        refusal,
+        TextRefusal::Audit(AuditRefusal::NoRails { line: 3 })
+    );
+    Ok(())
+}
+
+#[test]
+fn a_fault_of_form_behind_a_part_that_is_not_right(rt: HostRuntime) -> Result<(), Fail> {
+    let text = b"lattice journal 2\nrails 0\noutput 0 f0 norails 0 1\nquestion 0 1x1\nend\n";
+    let refusal = as_it_is_read(rt.alloc(), ONE, text)?
+        .err()
+        .ok_or("it is right")?;
+    assert_eq!(rt;
+        refusal,
+        TextRefusal::Form(JournalRefusal::Order { line: 5 })
+    );
     Ok(())
 }

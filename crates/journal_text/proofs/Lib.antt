@@ -9,4 +9,5 @@ pub mod VerdictLaws
 pub mod GivesLaws
 pub mod ReadLaws
 pub mod PartsLaws
+pub mod CursorLaws
 pub mod WriteLaws

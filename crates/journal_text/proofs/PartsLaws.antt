@@ -291,18 +291,17 @@ head_room v rails bytes rest last e f few =
 pub rails_refused : (v : Version) (bytes rest : List ℕ) (r : JournalRefusal) → bytes ≡ title_text v ++ rest → IsRefused (title_text v ++ rest) r → IsRefused bytes r
 rails_refused v bytes rest r e h = subst (λ z. IsRefused z r) (sym e) h
 
-pub whole_refused : (v : Version) (rails : ℕ) (bytes rest last : List ℕ) (first : ℕ) (r : JournalRefusal) → bytes ≡ title_text v ++ rest → AreRails v rails → title_text v ++ rest ≡ head_text v rails ++ last → first ≡ first_number v
-    → IsRefusedBehind v last first r → r ≢ refusals.NoMemory → IsRefused bytes r
-whole_refused v rails bytes rest last first r e is f n stop other =
+pub begun_refused : (v : Version) (rails : ℕ) (text last : List ℕ) (first : ℕ) (r : JournalRefusal) → AreRails v rails → text ≡ head_text v rails ++ last → first ≡ first_number v → IsRefusedBehind v last first r → r ≢ refusals.NoMemory → IsRefused text r
+begun_refused v rails text last first r is e n stop other =
     let front : front_text v rails [] ≡ head_text v rails = front-none v rails in
-    subst (λ z. IsRefused z r) (ap (λ z. z ++ last) front ∙ sym f ∙ sym e)
+    subst (λ z. IsRefused z r) (ap (λ z. z ++ last) front ∙ sym e)
     (stop other (empty v rails) (record { rails = is; parts = All-nil (IsPart v) }) refl (n ∙ feeds-head v rails ∙ ap (λ z. 1 + feeds z) (sym front)))
 
-pub whole_read : (v : Version) (rails : ℕ) (parts : List PartRead) (bytes rest last : List ℕ) (first : ℕ) → bytes ≡ title_text v ++ rest → AreRails v rails → title_text v ++ rest ≡ head_text v rails ++ last → first ≡ first_number v → AreParts v first last parts
-    → IsJournal (record { version = v; rails = rails; parts = parts_of parts }) × (bytes ≡ journal_text (record { version = v; rails = rails; parts = parts_of parts })) × AreLined v (1 + feeds (head_text v rails)) parts
+pub begun_read : (v : Version) (rails : ℕ) (parts : List PartRead) (text last : List ℕ) (first : ℕ) → AreRails v rails → text ≡ head_text v rails ++ last → first ≡ first_number v → AreParts v first last parts
+    → IsJournal (record { version = v; rails = rails; parts = parts_of parts }) × (text ≡ journal_text (record { version = v; rails = rails; parts = parts_of parts })) × AreLined v (1 + feeds (head_text v rails)) parts
 unfolding journal_text front_text
-whole_read v rails parts bytes rest last first e is f n all = (
+begun_read v rails parts text last first is e n all = (
   record { rails = is; parts = all.each },
-  e ∙ f ∙ ap (λ z. head_text v rails ++ z) all.text ∙ sym (append_assoc (head_text v rails) (parts_text v (parts_of parts)) (codes "end\n")),
+  e ∙ ap (λ z. head_text v rails ++ z) all.text ∙ sym (append_assoc (head_text v rails) (parts_text v (parts_of parts)) (codes "end\n")),
   subst (λ (z : ℕ). AreLined v z parts) (n ∙ feeds-head v rails) all.lined,
 )

@@ -9,5 +9,6 @@ pub mod Bounds
 pub mod Calls
 pub mod Reading
 pub mod Lines
+pub mod Cursor
 pub mod Laws
 pub mod Shown

@@ -10,6 +10,7 @@ pub mod journal;
 mod lead;
 mod lines;
 pub mod read;
+pub mod reader;
 pub mod refusal;
 pub mod section;
 pub mod target;

@@ -1,91 +1,27 @@
 //! Journals are read.
 ghost use Rattle.std.specs.Prelude.{◌≡◌, ◌≢◌, ℕ, ◌+◌, ◌≤◌, ◌∷◌, ◌++◌, List, [], length, codes, decimal, MatchOption, MatchResult, IfOk, IfErr, IsErrOf, ◌⊎◌, Result, Ok, Err};
 ghost use Rattle.std.specs.Bool.{MatchBool};
-ghost use Rattle.report_text.specs.Bounds.{AreRails};
-ghost use Rattle.report_text.specs.Pieces.{Without, Cuts, words, feeds};
+ghost use Rattle.report_text.specs.Pieces.{Without, Cuts, feeds};
 ghost use Rattle.report_text.specs.declared.answer.Version.{Version};
 ghost use Rattle.report_text.specs.declared.block.BlockFault.{BlockFault};
 ghost use Rattle.journal_text.specs.Bounds.{IsJournal};
-ghost use Rattle.journal_text.specs.Lines.{InnerSo, SaysFound, HaltsInside, HasSteps, IsRefusedInside, refusal_for, IsPartAt, IsAhead, AreParts, IsRefusedBehind, first_number};
+ghost use Rattle.journal_text.specs.Lines.{InnerSo, SaysFound, HaltsInside, HasSteps, IsRefusedInside, refusal_for, IsPartAt, IsAhead, IsRefusedBehind};
 ghost use Rattle.journal_text.specs.Parts.{JournalParts, parts_of_journal};
-ghost use Rattle.journal_text.specs.Reading.{Next, first_word, title_text, IsTitleLine, IsRefused, Gives, HasLineNumbers, seen};
-ghost use Rattle.journal_text.specs.Text.{head_text, journal_text, question_text};
+ghost use Rattle.journal_text.specs.Reading.{Next, first_word, IsRefused, Gives, HasLineNumbers, seen};
+ghost use Rattle.journal_text.specs.Text.{journal_text};
 ghost use Rattle.journal_text.specs.declared.refusal.JournalRefusal.{JournalRefusal};
 
 use crate::form::{close_of, question_of, step_of};
 use crate::journal::{Journal, Part, PartKind, SectionText, StepLine};
 use crate::lead::{Lead, lead_of};
+use crate::reader::Reader;
 use crate::refusal::JournalRefusal;
 use crate::target::{Close, Target};
-use crate::text::{behind, cut, last_number, word_at};
+use crate::text::{cut, word_at};
 use lrat_replay::line::Step;
-use report_text::answer::{ALL_RAILS, Version};
+use report_text::answer::Version;
 use report_text::block::{BlockFault, read_block};
 use std::alloc::Global;
-
-/// The version that a first line names.
-fn title_of(line: &[u8]) -> Option<Version>
-    ensures { MatchOption result ((v : Version) → title_text v ≢ line.now ++ 10 ∷ []) (λ v. title_text v ≡ line.now ++ 10 ∷ []) }
-{
-    if line == b"lattice journal 1".as_slice() {
-        return Some(Version::One);
-    }
-    if line == b"lattice journal 2".as_slice() {
-        return Some(Version::Two);
-    }
-    None
-}
-
-/// The version at the front of a text, and what follows.
-fn title_at(bytes: &[u8]) -> Result<(Version, &[u8]), JournalRefusal>
-    ensures { MatchResult result
-        (λ found. bytes.now ≡ title_text found.0 ++ found.1.now)
-        (λ refusal. IsRefused bytes.now refusal) }
-{
-    let Some((title, rest)) = cut(bytes, b'\n') else {
-        return Err(JournalRefusal::Truncated { line: 1 });
-    };
-    match title_of(title) {
-        None => Err(JournalRefusal::Header { line: 1 }),
-        Some(version) => Ok((version, rest)),
-    }
-}
-
-/// The rails that a line gives.
-fn rails_of(line: &[u8]) -> Option<u32>
-    ensures { MatchOption result
-        ((n : ℕ) → n ≤ 1048575 → words line.now ≢ codes "rails" ∷ decimal n ∷ [])
-        (λ n. (n ≤ 1048575) × (words line.now ≡ codes "rails" ∷ decimal n ∷ [])) }
-{
-    last_number(behind(line, b"rails")?, ALL_RAILS)
-}
-
-/// The rails on the second line of a text of version 2, at the front of the bytes, and what follows.
-fn rails_line(bytes: &[u8]) -> Result<(u32, &[u8]), JournalRefusal>
-    ensures { MatchResult result
-        (λ found. AreRails Version.Two found.0 × (title_text Version.Two ++ bytes.now ≡ head_text Version.Two found.0 ++ found.1.now))
-        (λ refusal. IsRefused (title_text Version.Two ++ bytes.now) refusal) }
-{
-    let Some((text, rest)) = cut(bytes, b'\n') else {
-        return Err(JournalRefusal::Truncated { line: 2 });
-    };
-    match rails_of(text) {
-        None => Err(JournalRefusal::Rails { line: 2 }),
-        Some(rails) => Ok((rails, rest)),
-    }
-}
-
-/// The rails at the front of the bytes, where the version names them, and what follows.
-fn rails_at(bytes: &[u8], version: Version) -> Result<(u32, &[u8]), JournalRefusal>
-    ensures { MatchResult result
-        (λ found. AreRails version found.0 × (title_text version ++ bytes.now ≡ head_text version found.0 ++ found.1.now))
-        (λ refusal. IsRefused (title_text version ++ bytes.now) refusal) }
-{
-    match version {
-        Version::One => Ok((ALL_RAILS, bytes)),
-        Version::Two => rails_line(bytes),
-    }
-}
 
 /// A line of a section behind its first one.
 #[derive(Drop)]
@@ -244,7 +180,7 @@ fn answer_at<'a>(
 
 /// What stands at the front of bytes outside of sections.
 #[derive(Drop)]
-enum Ahead<'a> {
+pub(crate) enum Ahead<'a> {
     /// The last line, and what follows it.
     End(&'a [u8]),
     /// A part, what follows it, and on which line.
@@ -256,7 +192,7 @@ enum Ahead<'a> {
 }
 
 /// What stands at the front of the bytes, which begin at the line `line`.
-fn part_at(
+pub(crate) fn part_at(
     alloc: Global,
     bytes: &[u8],
     line: u32,
@@ -292,53 +228,6 @@ fn part_at(
     }
 }
 
-/// The parts at the front of the bytes, which begin at the line `first`, where the last line and nothing else follows.
-fn parts_at(
-    alloc: Global,
-    bytes: &[u8],
-    first: u32,
-    version: Version,
-) -> Result<Vec<Part>, JournalRefusal>
-    requires { first + length bytes.now ≤ 536870913 }
-    ensures { MatchResult result
-        (λ parts. AreParts version first bytes.now parts.items)
-        (λ refusal. IsRefusedBehind version bytes.now first refusal) }
-{
-    let mut parts = Vec::new(alloc);
-    let mut rest = bytes;
-    let mut line = first;
-    loop {
-        match part_at(alloc, rest, line, version)? {
-            Ahead::End(more) => {
-                return if more.is_empty() {
-                    Ok(parts)
-                } else {
-                    Err(JournalRefusal::Trailing { line: line + 1 })
-                };
-            }
-            Ahead::Part {
-                part,
-                rest: after,
-                next,
-            } => {
-                parts.push(part)?;
-                rest = after;
-                line = next;
-            }
-        }
-    }
-}
-
-/// The number of the line on which the first part begins, or the last line stands.
-fn first_line(version: Version) -> u32
-    ensures { result ≡ first_number version }
-{
-    match version {
-        Version::One => 2,
-        Version::Two => 3,
-    }
-}
-
 /// The journal that the text spells, or the first fault.
 fn spelled(alloc: Global, bytes: &[u8]) -> Result<Journal, JournalRefusal>
     requires { length bytes.now ≤ 536870912 }
@@ -346,12 +235,14 @@ fn spelled(alloc: Global, bytes: &[u8]) -> Result<Journal, JournalRefusal>
         (λ journal. IsJournal (parts_of_journal journal) × (bytes.now ≡ journal_text (parts_of_journal journal)) × HasLineNumbers journal)
         (λ refusal. refusal ≢ JournalRefusal.NoMemory → IsRefused bytes.now refusal) }
 {
-    let (version, rest) = title_at(bytes)?;
-    let (rails, rest) = rails_at(rest, version)?;
-    let parts = parts_at(alloc, rest, first_line(version), version)?;
+    let mut reader = Reader::new(bytes)?;
+    let mut parts = Vec::new(alloc);
+    while let Some(part) = reader.next(alloc)? {
+        parts.push(part)?;
+    }
     Ok(Journal {
-        version,
-        rails,
+        version: reader.version,
+        rails: reader.rails,
         parts,
     })
 }

@@ -1,5 +1,5 @@
 use Rattle.journal_text.proofs.ReadLaws.{no_rails, rails_read}
-use Rattle.journal_text.proofs.read.rails_line.Goals as goal
+use Rattle.journal_text.proofs.reader.rails_line.Goals as goal
 
 pub returns-in-None : goal.returns-in-None
 returns-in-None c = no_rails c.args.bytes.now c.in-Some.text.now c.in-Some.rest.now c.in-Some.ensures c.in-None.ensures

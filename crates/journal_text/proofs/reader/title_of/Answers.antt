@@ -1,6 +1,6 @@
 use Rattle.std.proofs.Common.{◌≢◌, codes, rules}
 use Rattle.journal_text.proofs.ReadLaws.{no_title}
-use Rattle.journal_text.proofs.read.title_of.Goals as goal
+use Rattle.journal_text.proofs.reader.title_of.Goals as goal
 
 pub returns : goal.returns
 returns c =
