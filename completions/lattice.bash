@@ -2,7 +2,7 @@
 _lattice() {
     local word=${COMP_WORDS[COMP_CWORD]} previous=${COMP_WORDS[COMP_CWORD - 1]}
     if [ "$COMP_CWORD" -eq 1 ]; then
-        COMPREPLY=($(compgen -W "synth map dual pairs verify audit renew cnf check" -- "$word"))
+        COMPREPLY=($(compgen -W "synth map dual pairs verify audit renew cnf check trial" -- "$word"))
         return
     fi
     case $previous in
@@ -13,6 +13,7 @@ _lattice() {
         cnf) COMPREPLY=($(compgen -W "--rows --cols --output" -- "$word")) ;;
         synth) COMPREPLY=($(compgen -W "--conflicts --output --rails" -- "$word") $(compgen -f -- "$word")) ;;
         map) COMPREPLY=($(compgen -W "--conflicts --output" -- "$word") $(compgen -f -- "$word")) ;;
+        trial) COMPREPLY=($(compgen -W "--conflicts" -- "$word") $(compgen -f -- "$word")) ;;
         verify | check | audit | renew) COMPREPLY=($(compgen -f -- "$word")) ;;
     esac
 }

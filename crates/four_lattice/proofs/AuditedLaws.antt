@@ -201,7 +201,7 @@ pub no_unaudited : (parts : Parts) (journal : JournalParts) → HasFunctions par
 no_unaudited parts journal many a h right =
     not_right (basis_of parts (parts_of_journal h.read)) h.read.parts.items a many (subst (Audited parts) (sym h.is_journal) right) h.refused
 
-audit_memory : (r : AuditRefusal) → (r ≡ refusals.NoMemory) ⊎ (r ≢ refusals.NoMemory)
+pub audit_memory : (r : AuditRefusal) → (r ≡ refusals.NoMemory) ⊎ (r ≢ refusals.NoMemory)
 audit_memory (refusals.Output line) = inr (λ e. cc)
 audit_memory (refusals.Literal line) = inr (λ e. cc)
 audit_memory (refusals.Wrong line x) = inr (λ e. cc)

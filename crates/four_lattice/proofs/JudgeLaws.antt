@@ -24,11 +24,12 @@ use Rattle.pla_reader.specs.Parts.{Parts}
 use Rattle.pla_reader.specs.Reading.{Reads, Refused as IsPlaRefused}
 use Rattle.pla_reader.proofs.AnswersLaws.{Reads-once, Refused-once, Reads-or_Refused}
 use Rattle.report_text.specs.declared.report.ReportRefusal.{ReportRefusal}
+use Rattle.trial_text.specs.Made.{made}
 use Rattle.report_text.specs.Reading.{Gives, IsRefused}
 use Rattle.report_text.specs.Report.{ReportParts}
 use Rattle.report_text.proofs.AnswerLaws.{one_answer}
 use Rattle.four_lattice.specs.Check.{IsAccepted, adds_empty, end_line}
-use Rattle.four_lattice.specs.Judge.{Texts, Task, Judgement, Refused, Accepted, Lattices, Encoding, Realised, Refuted, Confirmed, Minima, Placed, Stage, Test, Last, TextRefuses, as_pla, as_cnf, as_array, IsArrayRefused, ArrayRefuses, ArrayGives, IsCnfRefused, IsLratRefused, IsReportRefused, IsJournalRefused, JournalRefuses, JournalGives, Unconfirms, AuditComes, LratRefuses, LratGives, ReportRefuses, ReportGives, LacksOutput, LacksFunction, Denies, LinesStop, LinesRefuse, LatticesCome, EncodingComes, VerifyComes, CheckComes, SynthComes, MapComes, JobComes, Comes, Renewed, JournalComes}
+use Rattle.four_lattice.specs.Judge.{Texts, Task, Judgement, Refused, Accepted, Lattices, Encoding, Realised, Refuted, Confirmed, Minima, Placed, Tried, Stage, Test, Last, TextRefuses, as_pla, as_cnf, as_array, IsArrayRefused, ArrayRefuses, ArrayGives, IsCnfRefused, IsLratRefused, IsReportRefused, IsJournalRefused, JournalRefuses, JournalGives, Unconfirms, AuditComes, LratRefuses, LratGives, ReportRefuses, ReportGives, LacksOutput, LacksFunction, Denies, LinesStop, LinesRefuse, LatticesCome, EncodingComes, VerifyComes, CheckComes, SynthComes, MapComes, JobComes, Comes, Renewed, JournalComes}
 use Rattle.four_lattice.specs.Laws.{IsOneJudgement, IsConfirmed}
 use Rattle.four_lattice.specs.Uses.{most_side_bytes}
 use Rattle.four_lattice.specs.Lattices.{IsThere}
@@ -343,6 +344,7 @@ module _ (Of : Option (List ℕ) → (List ℕ → Type 0) → Type 0) (both : T
   job_one jobs.Renew x i j h k = journal_tested Renewed x i j h k
   job_one (jobs.Synth conflicts output rails) x i j h k = synth_one rails conflicts output x i j h k
   job_one (jobs.Map conflicts output) x i j h k = map_one conflicts output x i j h k
+  job_one (jobs.Trial conflicts number) x i j h k = h.2 ∙ ap (λ parts. Accepted (Tried number conflicts parts)) (Reads-once (made number) h.0 k.0 h.1 k.1) ∙ sym k.2
 
   -- words and texts
   one_of : (asked : Option Job) (x : Texts) (i j : Judgement) → Comes IsSomeAnd asked x i → Comes Of asked x j → i ≡ j

@@ -14,8 +14,11 @@ pub mod AuditedLaws
 pub mod JudgeLaws
 pub mod SettledLaws
 pub mod CommandLaws
+pub mod SideAuditLaws
 pub mod SynthLists
+pub mod TallyLaws
 pub mod SynthLaws
 pub mod SynthFinish
+pub mod TrialLaws
 pub mod RejectedLaws
 pub mod MapFinish

@@ -15,7 +15,7 @@ use Rattle.lrat_replay.specs.declared.line.Line.{Line}
 use Rattle.pla_reader.specs.Parts.{Parts}
 use Rattle.report_text.specs.Report.{ReportParts}
 use Rattle.four_lattice.specs.Check.{IsAccepted, adds_empty}
-use Rattle.four_lattice.specs.Judge.{Texts, Task, Judgement, Refused as Refuses, Accepted, Lattices, Encoding, Realised, Refuted, Confirmed, Minima, Placed, Stage, Test, Last, ArrayRefuses, ArrayGives, PlaRefuses, PlaGives, CnfRefuses, CnfGives, LratRefuses, LratGives, ReportRefuses, ReportGives, LacksOutput, LacksFunction, Denies, LinesRefuse, JournalRefuses, JournalGives, Unconfirms, Comes, JobComes, Renewed, JournalComes}
+use Rattle.four_lattice.specs.Judge.{Texts, Task, Judgement, Refused as Refuses, Accepted, Lattices, Encoding, Realised, Refuted, Confirmed, Minima, Placed, Tried, Stage, Test, Last, ArrayRefuses, ArrayGives, PlaRefuses, PlaGives, CnfRefuses, CnfGives, LratRefuses, LratGives, ReportRefuses, ReportGives, LacksOutput, LacksFunction, Denies, LinesRefuse, JournalRefuses, JournalGives, Unconfirms, Comes, JobComes, Renewed, JournalComes}
 use Rattle.four_lattice.specs.Lattices.{IsThere}
 use Rattle.four_lattice.specs.Verified.{IsVerified}
 use Rattle.four_lattice.specs.declared.lattices.Construction.TheVariants as construction
@@ -32,7 +32,7 @@ use Rattle.four_lattice.specs.declared.ending.Refusal.TheVariants as refusal
 use Rattle.four_lattice.specs.declared.ending.Ending.{Ending}
 use Rattle.four_lattice.specs.declared.ending.Ending.TheVariants.{Done, Undecided, Refused, ReadFault, WriteFault, NoMemory}
 use Rattle.four_lattice.specs.declared.words.Job.{Job}
-use Rattle.four_lattice.specs.declared.words.Job.TheVariants.{Pairs, Dual, Cnf, Verify, Check, Audit, Synth, Map, Renew}
+use Rattle.four_lattice.specs.declared.words.Job.TheVariants.{Pairs, Dual, Cnf, Verify, Check, Audit, Synth, Map, Renew, Trial}
 use Rattle.four_lattice.proofs.JudgeLaws.{judged_once}
 
 refused_apart : (r : Refusal) (task : Task) → Refuses r ≡ Accepted task → ⊥
@@ -156,6 +156,7 @@ no_words (Map conflicts output) x h =
     stage_words Parts (PlaRefuses IfSome x) (PlaGives IfSome x) (λ parts. Test (LacksOutput (Some output) parts) (IsThere (Some output) parts.outputs) (arrays parts)) (λ p. not_input _ p.2)
     (λ parts. test_words (LacksOutput (Some output) parts) (IsThere (Some output) parts.outputs) (arrays parts) (λ p. not_input _ p.1)
     (stage_words Defects (ArrayRefuses IfSome x parts) (ArrayGives IfSome x parts) (last parts) (λ p. not_input _ p.2) (λ a e. refused_apart refusal.Words (Placed conflicts output a parts) e))) h
+no_words (Trial conflicts number) x h = refused_apart refusal.Words (Tried number conflicts h.0) h.2
 
 refused_words : (asked : Option Job) (x : Texts) → Comes IfSome asked x (Refuses refusal.Words) → asked ≡ None
 refused_words None x h = refl

@@ -36,7 +36,7 @@ use Rattle.defect_array.specs.Place.{HoldsOnArray}
 use Rattle.lattice_question.specs.Written.{IsSectionOf, HasNoSection, IsShown, Searched, StoppedAsking}
 use Rattle.four_lattice.specs.Devices.{Change, GainsTold}
 use Rattle.four_lattice.specs.Lattices.{IsThere}
-use Rattle.four_lattice.specs.Minima.{Asked, asked, asked_on, is_open, HasSinkCause, BothLater, IsBlockOf, AnswersOutput, CutsOutput, WroteOutput, StoppedOutput, Settled, IsLeft, WroteBlocks, StoppedBlocks, WroteHeads, StoppedHeads, WroteEnds, StoppedEnds, WroteAnswers, StoppedAnswers, basis_of}
+use Rattle.four_lattice.specs.Minima.{Asked, asked, asked_on, is_open, joined, HasSinkCause, BothLater, IsBlockOf, AnswersOutput, CutsOutput, WroteOutput, StoppedOutput, Settled, IsLeft, WroteBlocks, StoppedBlocks, WroteHeads, StoppedHeads, WroteEnds, StoppedEnds, WroteAnswers, StoppedAnswers, basis_of}
 use Rattle.four_lattice.specs.Synth.{Sought, Least, OnArray, Holds, IsFront, chosen_outputs, IsNamed, IsAnswersReport, IsAnswersJournal, IsHeld, IsShownIn, IsShowing, StandsWhole, StandsShown, BeginsShowing, BeginAnswers, answers_of, is_undecided}
 use Rattle.area_search.specs.Searched.{StoppedSearch}
 use Rattle.area_search.specs.declared.fault.SearchFault.{SearchFault}
@@ -45,8 +45,8 @@ use Rattle.audit_core.specs.Laws.{AddsRight}
 use Rattle.audit_core.specs.Sought.{IsSection}
 use Rattle.four_lattice.specs.declared.lattices.WorkFault.{WorkFault}
 use Rattle.four_lattice.specs.declared.lattices.WorkFault.TheVariants.{Write, NoMemory}
-use Rattle.four_lattice.specs.declared.synth.Decision.{Decision}
-use Rattle.four_lattice.specs.declared.synth.Decision.TheVariants.{Decided}
+use Rattle.four_lattice.specs.declared.tally.Tally.{Tally}
+use Rattle.four_lattice.proofs.TallyLaws.{no_answers_yet, joined-none, tally-more, open-undecided}
 use Rattle.std.proofs.lemmas.Option.{slice_get-map, slice_get_read}
 use Rattle.std.specs.Prelude.{option_map}
 use Rattle.four_lattice.proofs.BlocksLaws.{names_are, input_names_are}
@@ -391,36 +391,31 @@ right-more law a outputs k block told j pla low new s ans right shows =
       section-for k output e (Answered b) h = h
 
 -- nothing is written yet
-pub wrote-none : (a : Asked) (o j : Device) → WroteBlocks a [] Decided (between o o) (between j j)
+pub wrote-none : (a : Asked) (o j : Device) → WroteBlocks a [] no_answers_yet (between o o) (between j j)
 unfolding settled-none
 wrote-none a o j = record {
   settled = settled-none a j.told;
   right = always j.told (none-right a);
-  decided = refl;
+  tallied = refl;
   out_gained = Gains-none o.told;
   journal_gained = Gains-none j.told;
   later = record { of_out = omega arith; of_journal = omega arith };
 }
 
-pub wrote-more : (law : AddsRight) (a : Asked) (outputs : List ℕ) (k : ℕ) (d e f : Decision) (o0 o1 o2 j0 j1 j2 : Device) → IsPla a.parts → All (λ i. i < k) outputs → (Contains outputs k → ⊥) → is_open f ≡ (is_open d || is_open e)
+pub wrote-more : (law : AddsRight) (a : Asked) (outputs : List ℕ) (k : ℕ) (d e f : Tally) (o0 o1 o2 j0 j1 j2 : Device) → IsPla a.parts → All (λ i. i < k) outputs → (Contains outputs k → ⊥) → f ≡ joined d e
     → WroteBlocks a outputs d (between o0 o1) (between j0 j1) → WroteOutput a k e (between o1 o2) (between j1 j2) → WroteBlocks a (outputs ++ k ∷ []) f (between o0 o2) (between j0 j2)
 unfolding settled-more
-wrote-more law a outputs k d e f o0 o1 o2 j0 j1 j2 pla low new joined w now = record {
+wrote-more law a outputs k d e f o0 o1 o2 j0 j1 j2 pla low new sum w now = record {
   settled = settled-more a outputs k now.block j0 j1 j2 new w.settled now.answers;
   right = told-both j1.told j2.told _ _ _ _ now.answers.gained (right-more law a outputs k now.block j1.told (between j1 j2) pla low new w.settled now.answers) w.right now.answers.shown;
-  decided = joined ∙ ap₂ (λ (x y : Bool). x || y) w.decided now.decided
-      ∙ ap (λ (x : Bool). list_any (λ b. is_undecided b.answer) w.settled.blocks || x) (or-false (is_undecided now.block.answer))
-      ∙ sym (list_any-append (λ (b : BlockParts). is_undecided b.answer) w.settled.blocks (now.block ∷ []));
+  tallied = sum ∙ ap₂ joined w.tallied now.tallied ∙ tally-more w.settled.blocks now.block;
   out_gained = subst (Gains o0.told o2.told) (sym (blocks-more w.settled.blocks now.block)) (Gains-append o0.told o1.told o2.told _ _ w.out_gained now.gained);
   journal_gained = subst (Gains j0.told j2.told) (sym (parts-more w.settled.all (now.answers.more ++ Answered now.block ∷ [])))
       (Gains-append j0.told j1.told j2.told _ _ w.journal_gained now.answers.gained);
   later = later-both o0 o1 o2 j0 j1 j2 w.later now.later;
-} where
-  or-false : (b : Bool) → b ≡ (b || false)
-  or-false true = refl
-  or-false false = refl
+}
 
-pub stopped-more : (a : Asked) (outputs : List ℕ) (k : ℕ) (rest : List ℕ) (d : Decision) (fault : WorkFault) (o0 o1 o2 j0 j1 j2 : Device) → IsAskedOf a → All (λ i. i < a.parts.outputs) rest
+pub stopped-more : (a : Asked) (outputs : List ℕ) (k : ℕ) (rest : List ℕ) (d : Tally) (fault : WorkFault) (o0 o1 o2 j0 j1 j2 : Device) → IsAskedOf a → All (λ i. i < a.parts.outputs) rest
     → (Contains outputs k → ⊥) → WroteBlocks a outputs d (between o0 o1) (between j0 j1) → StoppedOutput a k fault (between o1 o2) (between j1 j2)
     → StoppedBlocks a (outputs ++ k ∷ rest) fault (between o0 o2) (between j0 j2)
 unfolding settled-more settled-later
@@ -465,13 +460,13 @@ stopped-more a outputs k rest d fault o0 o1 o2 j0 j1 j2 h below new w stop = eli
   }
 
 -- the one output that is asked for
-pub wrote-one : (law : AddsRight) (a : Asked) (k : ℕ) (d : Decision) (o0 o1 j0 j1 : Device) → IsPla a.parts → WroteOutput a k d (between o0 o1) (between j0 j1) → WroteBlocks a (k ∷ []) d (between o0 o1) (between j0 j1)
-wrote-one law a k d o0 o1 j0 j1 pla now = wrote-more law a [] k Decided d d o0 o0 o1 j0 j0 j1 pla (All-nil (λ i. i < k)) (λ c. none k c) refl (wrote-none a o0 j0) now where
+pub wrote-one : (law : AddsRight) (a : Asked) (k : ℕ) (d : Tally) (o0 o1 j0 j1 : Device) → IsPla a.parts → WroteOutput a k d (between o0 o1) (between j0 j1) → WroteBlocks a (k ∷ []) d (between o0 o1) (between j0 j1)
+wrote-one law a k d o0 o1 j0 j1 pla now = wrote-more law a [] k no_answers_yet d d o0 o0 o1 j0 j0 j1 pla (All-nil (λ i. i < k)) (λ c. none k c) (joined-none d) (wrote-none a o0 j0) now where
   none : (k : ℕ) → Contains [] k → ⊥
   none k c = omega (arith, c.1)
 
 pub stopped-one : (a : Asked) (k : ℕ) (fault : WorkFault) (o0 o1 j0 j1 : Device) → IsAskedOf a → StoppedOutput a k fault (between o0 o1) (between j0 j1) → StoppedBlocks a (k ∷ []) fault (between o0 o1) (between j0 j1)
-stopped-one a k fault o0 o1 j0 j1 h st = stopped-more a [] k [] Decided fault o0 o0 o1 j0 j0 j1 h (All-nil (λ i. i < a.parts.outputs)) (λ c. none k c) (wrote-none a o0 j0) st where
+stopped-one a k fault o0 o1 j0 j1 h st = stopped-more a [] k [] no_answers_yet fault o0 o0 o1 j0 j0 j1 h (All-nil (λ i. i < a.parts.outputs)) (λ c. none k c) (wrote-none a o0 j0) st where
   none : (k : ℕ) → Contains [] k → ⊥
   none k c = omega (arith, c.1)
 
@@ -516,7 +511,7 @@ report-gained a blocks b0 b1 b2 b3 g h k =
     subst (Gains b0 b3) (sym (report_text-is (record { version = Two; rails = a.rails; input_names = a.parts.input_names; blocks = blocks })))
     (Gains-append b0 b1 b3 (report.head_text Two a.rails a.parts.input_names) (blocks_text Two blocks ++ codes "end\n") g (Gains-append b1 b2 b3 (blocks_text Two blocks) (codes "end\n") h k))
 
-pub answers-whole : (a : Asked) (output : Option ℕ) (d : Decision) (o0 o1 o2 o3 j0 j1 j2 j3 : Device) → IsAskedOf a → WroteHeads a.rails a.parts.input_names (between o0 o1) (between j0 j1)
+pub answers-whole : (a : Asked) (output : Option ℕ) (d : Tally) (o0 o1 o2 o3 j0 j1 j2 j3 : Device) → IsAskedOf a → WroteHeads a.rails a.parts.input_names (between o0 o1) (between j0 j1)
     → WroteBlocks a (chosen_outputs output a.parts.outputs) d (between o1 o2) (between j1 j2) → WroteEnds (between o2 o3) (between j2 j3) → WroteAnswers a output d (between o0 o3) (between j0 j3)
 unfolding report-of journal-of
 answers-whole a output d o0 o1 o2 o3 j0 j1 j2 j3 h heads w ends =
@@ -530,13 +525,16 @@ answers-whole a output d o0 o1 o2 o3 j0 j1 j2 j3 h heads w ends =
     record {
       bytes = report_text r;
       told = named.0;
-      answers = record {
-        report = r;
-        is = is-report a output s.blocks s.all h s.outputs_are s.named s.answers s.bounds;
-        text = refl;
-        held = s.held;
-        shown = named.2;
-        undecided_is = w.decided;
+      holds = record {
+        answers = record {
+          report = r;
+          is = is-report a output s.blocks s.all h s.outputs_are s.named s.answers s.bounds;
+          text = refl;
+          held = s.held;
+          shown = named.2;
+          undecided_is = ap is_open w.tallied ∙ open-undecided s.blocks;
+        };
+        tallied = w.tallied;
       };
       out_gained = report-gained a s.blocks o0.told o1.told o2.told o3.told heads.out_gained w.out_gained ends.out_gained;
       journal_gained = named.1;
@@ -663,7 +661,7 @@ heads-stopped a output fault o0 o1 j0 j1 h there st =
     (front-trans st.journal_front.front lines (journal_text (journal-of a ([] ++ parts))) (st.journal_front.rest, st.journal_front.whole)
     (subst (λ w. IsFront w (journal_text (journal-of a ([] ++ parts)))) (append-nil lines) (journal-front a [] parts [] (parts_text Two parts, refl))))
     (inl refl) in
-    record { bytes = st.out_front.front; told = r.0; begins = r.2; out_gained = st.out_front.gained; journal_gained = r.1; later = st.later; cause = st.cause }
+    record { bytes = st.out_front.front; told = r.0; stands = r.2; out_gained = st.out_front.gained; journal_gained = r.1; later = st.later; cause = st.cause }
 
 pub blocks-stopped : (a : Asked) (output : Option ℕ) (fault : WorkFault) (o0 o1 o2 j0 j1 j2 : Device) → IsAskedOf a → WroteHeads a.rails a.parts.input_names (between o0 o1) (between j0 j1)
     → StoppedBlocks a (chosen_outputs output a.parts.outputs) fault (between o1 o2) (between j1 j2) → StoppedAnswers a output fault (between o0 o2) (between j0 j2)
@@ -682,7 +680,7 @@ blocks-stopped a output fault o0 o1 o2 j0 j1 j2 h heads st =
     record {
       bytes = head ++ st.front.front;
       told = r.0;
-      begins = r.2;
+      stands = r.2;
       out_gained = Gains-append o0.told o1.told o2.told head st.front.front heads.out_gained st.front.gained;
       journal_gained = r.1;
       later = later-both o0 o1 o2 j0 j1 j2 heads.later st.later;
@@ -704,7 +702,7 @@ journal-ended a all end f =
     subst (λ (ps : List Part). IsFront (front_text Two a.rails all ++ end) (journal_text (record { version = Two; rails = a.rails; parts = ps }))) (sym (append-nil all))
     (subst (IsFront (front_text Two a.rails all ++ end)) (sym (journal_text-is Two a.rails all)) (front-behind (front_text Two a.rails all) end (codes "end\n") f))
 
-pub ends-stopped : (a : Asked) (output : Option ℕ) (d : Decision) (fault : WorkFault) (o0 o1 o2 o3 j0 j1 j2 j3 : Device) → IsAskedOf a → WroteHeads a.rails a.parts.input_names (between o0 o1) (between j0 j1)
+pub ends-stopped : (a : Asked) (output : Option ℕ) (d : Tally) (fault : WorkFault) (o0 o1 o2 o3 j0 j1 j2 j3 : Device) → IsAskedOf a → WroteHeads a.rails a.parts.input_names (between o0 o1) (between j0 j1)
     → WroteBlocks a (chosen_outputs output a.parts.outputs) d (between o1 o2) (between j1 j2) → StoppedEnds fault (between o2 o3) (between j2 j3) → StoppedAnswers a output fault (between o0 o3) (between j0 j3)
 unfolding settled-later
 ends-stopped a output d fault o0 o1 o2 o3 j0 j1 j2 j3 h heads w st =
@@ -723,7 +721,7 @@ ends-stopped a output d fault o0 o1 o2 o3 j0 j1 j2 j3 h heads w st =
     record {
       bytes = bytes;
       told = r.0;
-      begins = r.2;
+      stands = r.2;
       out_gained = Gains-append o0.told o1.told o3.told head (blocks_text Two s.blocks ++ st.out_front.front) heads.out_gained
           (Gains-append o1.told o2.told o3.told (blocks_text Two s.blocks) st.out_front.front w.out_gained st.out_front.gained);
       journal_gained = r.1;
@@ -751,17 +749,17 @@ from-more first k p =
     let f : first + (k - first) ≡ k = omega (arith, p) in
     ap (range_with_len first) e ∙ range-split first (k - first) 1 ∙ ap (λ n. range_with_len first (k - first) ++ range_with_len n 1) f
 
-pub outputs-none : (a : Asked) (first : ℕ) (o j : Device) → WroteBlocks a (range_with_len first (first - first)) Decided (between o o) (between j j)
-outputs-none a first o j = subst (λ (ks : List ℕ). WroteBlocks a ks Decided (between o o) (between j j)) (sym (from-none first)) (wrote-none a o j)
+pub outputs-none : (a : Asked) (first : ℕ) (o j : Device) → WroteBlocks a (range_with_len first (first - first)) no_answers_yet (between o o) (between j j)
+outputs-none a first o j = subst (λ (ks : List ℕ). WroteBlocks a ks no_answers_yet (between o o) (between j j)) (sym (from-none first)) (wrote-none a o j)
 
-pub outputs-more : (law : AddsRight) (a : Asked) (first k : ℕ) (d e f : Decision) (o0 o1 o2 j0 j1 j2 : Device) → IsPla a.parts → first ≤ k → is_open f ≡ (is_open d || is_open e)
+pub outputs-more : (law : AddsRight) (a : Asked) (first k : ℕ) (d e f : Tally) (o0 o1 o2 j0 j1 j2 : Device) → IsPla a.parts → first ≤ k → f ≡ joined d e
     → WroteBlocks a (range_with_len first (k - first)) d (between o0 o1) (between j0 j1) → WroteOutput a k e (between o1 o2) (between j1 j2)
     → WroteBlocks a (range_with_len first (k + 1 - first)) f (between o0 o2) (between j0 j2)
-outputs-more law a first k d e f o0 o1 o2 j0 j1 j2 pla p joined w now =
+outputs-more law a first k d e f o0 o1 o2 j0 j1 j2 pla p sum w now =
     subst (λ (ks : List ℕ). WroteBlocks a ks f (between o0 o2) (between j0 j2)) (sym (from-more first k p))
-    (wrote-more law a (range_with_len first (k - first)) k d e f o0 o1 o2 j0 j1 j2 pla (range-below first (k - first) k (omega (arith, p))) (range-without first (k - first) k (omega (arith, p))) joined w now)
+    (wrote-more law a (range_with_len first (k - first)) k d e f o0 o1 o2 j0 j1 j2 pla (range-below first (k - first) k (omega (arith, p))) (range-without first (k - first) k (omega (arith, p))) sum w now)
 
-pub outputs-stopped : (a : Asked) (first k end : ℕ) (d : Decision) (fault : WorkFault) (o0 o1 o2 j0 j1 j2 : Device) → IsAskedOf a → first ≤ k → k < end → end ≤ a.parts.outputs
+pub outputs-stopped : (a : Asked) (first k end : ℕ) (d : Tally) (fault : WorkFault) (o0 o1 o2 j0 j1 j2 : Device) → IsAskedOf a → first ≤ k → k < end → end ≤ a.parts.outputs
     → WroteBlocks a (range_with_len first (k - first)) d (between o0 o1) (between j0 j1) → StoppedOutput a k fault (between o1 o2) (between j1 j2)
     → StoppedBlocks a (range_with_len first (end - first)) fault (between o0 o2) (between j0 j2)
 outputs-stopped a first k end d fault o0 o1 o2 j0 j1 j2 h p q r w st =

@@ -16,8 +16,8 @@ use Rattle.clap.specs.declared.error.kind.ErrorKind.TheVariants.{OutOfMemory}
 use Rattle.clap.specs.declared.parser.matches.ArgMatches.{ArgMatches}
 use Rattle.clap.proofs.FaultLemmas.{leaf_fault}
 use Rattle.clap.proofs.WalkLemmas.{one_text-rows}
-use Rattle.four_lattice.specs.Words.{Row as TableRow, Setting, given_of, is_number, number_given}
-use Rattle.four_lattice.specs.WordsParts.{Shows, bare_app, file_rule, is_small, is_spelled, is_table, number_rule, row_app}
+use Rattle.four_lattice.specs.Words.{Row as TableRow, Setting, given_of, is_number, number_given, is_small}
+use Rattle.four_lattice.specs.WordsParts.{Shows, bare_app, file_rule, is_spelled, is_table, number_rule, row_app}
 use Rattle.four_lattice.proofs.WordsNumbers.{number_without_minus}
 use Rattle.four_lattice.proofs.WordsRules.{file_built, files_built, filled_rules, option_built, rules_built}
 use Rattle.four_lattice.proofs.WordsTurns.{passes, quiet, quiet-or_else, shape, shown, stage}

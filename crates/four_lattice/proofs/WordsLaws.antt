@@ -1,18 +1,18 @@
 -- What the reading of words rests on beside `clap`.
 use Rattle.std.proofs.Common.{option_and_then, ◌≡◌, ◌∙◌, ℕ, ◌<◌, ◌^◌, ◌&&◌, Bool, cond, true, false, not, refl, sym, ap, subst, arith, List, [], ◌∷◌, ◌++◌, length, map, Option, Some, None, Ok, Err, Result, option_map, codes}
-use Rattle.std.specs.Prelude.{find, is_none, nat_lt, drop, IsSomeAnd}
+use Rattle.std.specs.Prelude.{IfOk, find, is_none, nat_lt, drop, IsSomeAnd, if◌then◌else◌, option_map}
 use Rattle.std.specs.Str.{bytes_eq}
 use Rattle.std.specs.Str.Parse.{ParsesUnsigned, digits_value}
 use Rattle.std.specs.List.{list_all, list_any}
 use Rattle.std.specs.Option.{option_map_or}
-use Rattle.std.proofs.lemmas.Bool.{and_left, and_parts, and_right, ltb-true}
+use Rattle.std.proofs.lemmas.Bool.{and_left, and_parts, and_right, ltb-true, lt-ltb}
 use Rattle.std.proofs.lemmas.Slice.Eq.{bytes_eq-Decides}
 use Rattle.clap.specs.Matches.{ReadsOne, found_of, one_text}
 use Rattle.clap.specs.declared.parser.matches.ArgMatches.{ArgMatches}
 use Rattle.four_lattice.specs.declared.words.Verb.{Verb}
-use Rattle.four_lattice.specs.declared.words.Verb.TheVariants.{Pairs, Dual, Cnf, Verify, Check, Audit, Synth, Map, Renew}
-use Rattle.four_lattice.specs.Words.{Given, Row, Setting, is_within, given_of, row_of, is_number, is_plain, may_give, number_given}
-use Rattle.four_lattice.specs.WordsParts.{Shows, is_option, is_small, is_spelled, is_table, option_names}
+use Rattle.four_lattice.specs.declared.words.Verb.TheVariants.{Pairs, Dual, Cnf, Verify, Check, Audit, Synth, Map, Renew, Trial}
+use Rattle.four_lattice.specs.Words.{Given, Row, Setting, is_within, given_of, row_of, is_number, is_plain, may_give, number_given, is_small, asked_by, numbered_of}
+use Rattle.four_lattice.specs.WordsParts.{Shows, is_option, is_spelled, is_table, option_names}
 use Rattle.four_lattice.proofs.WordsNumbers.{all_digits, number_digits, number_plain_sign}
 
 -- ---- words that are not spelled as they are to be
@@ -82,6 +82,24 @@ small-parses {E} (b ∷ bytes) (Err e) small parses =
     let fits : digits_value 10 (b ∷ bytes) < 2 ^ 32 = ltb-true (digits_value 10 (b ∷ bytes)) (2 ^ 32) (and_parts _ _ small).1 in
     absurd ((rw plain at parses) ((some, all_digits (b ∷ bytes) (number_digits b bytes number)), fits))
 
+-- a number that fits is parsed as its value, and another one is not
+pub small-parsed : {E : Type 0} (text : List ℕ) (r : Result ℕ E) (n : ℕ) → r ≡ Ok n → is_number text ≡ true → ParsesUnsigned 32 10 text r → Some n ≡ (if is_small text then Some (digits_value 10 text) else None)
+small-parsed {E} [] r n is number parses = cc
+small-parsed {E} (b ∷ bytes) r n is number parses =
+    let q : ParsesUnsigned {E = E} 32 10 (b ∷ bytes) (Ok n) = subst (λ (x : Result ℕ E). ParsesUnsigned {E = E} 32 10 (b ∷ bytes) x) is parses in
+    let p = rw (number_plain_sign b bytes number) at q in
+    rw (number, lt-ltb (digits_value 10 (b ∷ bytes)) (2 ^ 32) p.0.1) (ap (λ m. Some m) p.1)
+
+pub small-unparsed : {E : Type 0} (text : List ℕ) (r : Result ℕ E) (e : E) → r ≡ Err e → is_number text ≡ true → ParsesUnsigned 32 10 text r → None ≡ (if is_small text then Some (digits_value 10 text) else None)
+small-unparsed {E} [] r e is number parses = cc
+small-unparsed {E} (b ∷ bytes) r e is number parses = go (nat_lt (digits_value 10 (b ∷ bytes)) (2 ^ 32)) refl
+  where
+    go : (t : Bool) → nat_lt (digits_value 10 (b ∷ bytes)) (2 ^ 32) ≡ t → None ≡ (if is_small (b ∷ bytes) then Some (digits_value 10 (b ∷ bytes)) else None)
+    go true fits =
+        let small : is_small (b ∷ bytes) ≡ true = rw (number, fits) refl in
+        let read : ◌≡◌ {A = Result ℕ E} (Err e) (Ok (digits_value 10 (b ∷ bytes))) = sym is ∙ small-parses {E = E} (b ∷ bytes) r small parses in cc
+    go false long = rw (number, long) refl
+
 -- what a getter reads of a name is the number that was given
 pub reads-given : {E : Type 0} (gives : List ℕ → Result ℕ E → Type 0) (given : Given) (m : ArgMatches) (name : List ℕ) (r : Option ℕ) → Shows given m → bytes_eq (codes "FILE") name ≡ false
     → ((text : List ℕ) (x : Result ℕ E) → gives text x → ParsesUnsigned 32 10 text x)
@@ -122,6 +140,7 @@ row_is_table Audit = refl
 row_is_table Renew = refl
 row_is_table Synth = refl
 row_is_table Map = refl
+row_is_table Trial = refl
 
 -- what is shown of something that was given is shown of what was given
 pub shown-all : {X Y : Type 0} (o : Option X) (P : X → Type 0) (f : X → Y) (y : Y) → IsSomeAnd o P → ((x : X) → P x → y ≡ f x) → option_map f o ≡ Some y
@@ -132,3 +151,24 @@ shown-all (Some x) P f y some all = ap (λ z. Some z) (sym (all x some))
 pub shown-then : {X Y : Type 0} (o : Option X) (P : X → Type 0) (f : X → Option Y) (r : Option Y) → IsSomeAnd o P → ((x : X) → P x → r ≡ f x) → option_and_then f o ≡ r
 shown-then None P f r some all = absurd some
 shown-then (Some x) P f r some all = sym (all x some)
+
+-- a job of what is given where no number is wanted
+pub found-plain : {X : Type 0} (row : Row) (words : List (List ℕ)) (f : Option ℕ → Given → Option X) (r : Option X) → row.wants_number ≡ false → option_and_then (f None) (given_of row [] words) ≡ r
+    → option_and_then (λ found. f found.0 found.1) (asked_by row words) ≡ r
+unfolding asked_by
+found-plain row words f r plain is = rw plain (go (given_of row [] words) is)
+  where
+    go : (o : Option Given) → option_and_then (f None) o ≡ r → option_and_then (λ (found : Option ℕ × Given). f found.0 found.1) (option_map (λ given. (None, given)) o) ≡ r
+    go None e = e
+    go (Some given) e = e
+
+-- and where one is
+pub found-numbered : {X : Type 0} (row : Row) (words : List (List ℕ)) (f : Option ℕ → Given → Option X) (r : Option X) → row.wants_number ≡ true
+    → option_and_then (λ found. f found.0 found.1) (numbered_of row words) ≡ r → option_and_then (λ found. f found.0 found.1) (asked_by row words) ≡ r
+unfolding asked_by
+found-numbered row words f r wants is = rw wants is
+
+-- what holds where there is a value
+pub if_ok : {T E : Type 0} (r : Result T E) (P Q : T → Type 0) → ((t : T) → P t → Q t) → IfOk r P → IfOk r Q
+if_ok (Ok t) P Q more h = more t h
+if_ok (Err e) P Q more h = tt

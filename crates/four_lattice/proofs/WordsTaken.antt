@@ -12,8 +12,8 @@ use Rattle.clap.specs.Lexer.{long_of}
 use Rattle.clap.specs.Takes.{is_given}
 use Rattle.clap.specs.Faults.{settle_fault, turn_fault}
 use Rattle.clap.specs.Walk.{Row, Text, Walk, arg_by_id, arg_by_index, finished, has_row, settled_rows, walked}
-use Rattle.four_lattice.specs.Words.{Row as TableRow, Setting, Given, given_of, is_number, is_plain, is_within, number_given}
-use Rattle.four_lattice.specs.WordsParts.{is_option, is_small, is_spelled, is_table, option_names}
+use Rattle.four_lattice.specs.Words.{Row as TableRow, Setting, Given, given_of, is_number, is_plain, is_within, number_given, is_small}
+use Rattle.four_lattice.specs.WordsParts.{is_option, is_spelled, is_table, option_names}
 use Rattle.four_lattice.proofs.WordsNumbers.{is_signed_in-number, number_minus, option_word}
 use Rattle.four_lattice.proofs.WordsRules.{at_index, file_built, files_built, id_file, id_known, long_known, long_unknown, rules_built}
 use Rattle.four_lattice.proofs.WordsTurns.{ends-is, finished-is, held, passes, passes-none, passes-word, quiet, settle_fault-file, settle_fault-option, settled-file, settled-option, shape, shown, shown_file, stage, turn-file, turn-known, turn-number, turn-stray, turn-unknown, waits_for, walked-file, walked-known, walked-number}

@@ -22,6 +22,7 @@ use Rattle.pla_reader.specs.Parts.{Parts}
 use Rattle.pla_reader.specs.Reading.{Reads, Refused as IsPlaRefused}
 use Rattle.report_text.specs.Reading.{Gives, IsRefused}
 use Rattle.report_text.specs.Report.{ReportParts}
+use Rattle.trial_text.specs.Made.{made}
 use Rattle.four_lattice.specs.Audited.{IsUnaudited}
 use Rattle.four_lattice.specs.Check.{IsFirstFault, IsAccepted, adds_empty, end_line}
 use Rattle.four_lattice.specs.Lattices.{IsThere}
@@ -54,6 +55,7 @@ pub data Task : Type 0 where
   Renewed : Parts → JournalParts → Task
   Minima : (rails budget : ℕ) → Option ℕ → Parts → Task
   Placed : (budget output : ℕ) → Defects → Parts → Task
+  Tried : (number budget : ℕ) → Parts → Task
 
 pub data Judgement : Type 0 where
   Refused : Refusal → Judgement
@@ -232,6 +234,10 @@ MapComes Of budget output x =
     Test (LacksOutput (Some output) parts) (IsThere (Some output) parts.outputs)
     (Stage Defects (ArrayRefuses Of x parts) (ArrayGives Of x parts) (λ a j. j ≡ Accepted (Placed budget output a parts))))
 
+-- Lattices of least area of all outputs of the PLA that a number makes, with at most so many conflicts for a question. No text is read.
+abbrev pub TrialComes : ℕ → ℕ → Judgement → Type 0
+TrialComes number budget j = (parts : Parts) × Reads (made number) parts × (j ≡ Accepted (Tried number budget parts))
+
 -- What the texts of a job come to: the standard input first, the chosen output, the array, the side file, then what is tested of it.
 abbrev pub JobComes : OfTold → Job → Texts → Judgement → Type 0
 JobComes Of (job.Pairs output) x = LatticesCome Of construction.Pairs output x
@@ -243,6 +249,7 @@ JobComes Of job.Audit x = AuditComes Of x
 JobComes Of job.Renew x = RenewComes Of x
 JobComes Of (job.Synth conflicts output rails) x = SynthComes Of rails conflicts output x
 JobComes Of (job.Map conflicts output) x = MapComes Of conflicts output x
+JobComes Of (job.Trial conflicts number) x = TrialComes number conflicts
 
 -- What words and texts come to. Words that ask for no job are refused.
 abbrev pub Comes : OfTold → Option Job → Texts → Judgement → Type 0
@@ -261,6 +268,7 @@ Opens (Some job.Audit) x = (parts : Parts) × PlaGives IfSome x parts
 Opens (Some job.Renew) x = (parts : Parts) × PlaGives IfSome x parts
 Opens (Some (job.Synth conflicts output rails)) x = ⊥
 Opens (Some (job.Map conflicts output)) x = ⊥
+Opens (Some (job.Trial conflicts number)) x = ⊥
 
 -- The inputs are accepted.
 abbrev pub IsGranted : (Judgement → Type 0) → Type 0

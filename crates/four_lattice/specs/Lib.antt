@@ -7,10 +7,12 @@ pub mod Checked
 pub mod Devices
 pub mod Judge
 pub mod Inputs
+pub mod SideAudit
 pub mod Lattices
 pub mod Verified
 pub mod Audited
 pub mod Synth
+pub mod Trial
 pub mod Minima
 pub mod Work
 pub mod Rejected

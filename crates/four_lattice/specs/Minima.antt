@@ -1,6 +1,6 @@
--- What the parts of `synth` and `map` write, for the crate's own proofs.
-use Rattle.std.specs.Prelude.{◌≡◌, ◌⊎◌, ℕ, ◌≤◌, Bool, true, false, List, [], ◌∷◌, ◌++◌, All, map, IfSome, slice_get, Some, codes}
-use Rattle.std.specs.List.{Contains, list_any}
+-- What the parts of `synth`, `map` and `trial` write, for the crate's own proofs.
+use Rattle.std.specs.Prelude.{◌≡◌, ◌⊎◌, ℕ, ◌+◌, ◌*◌, ◌≤◌, Bool, nat_lt, if◌then◌else◌, List, [], ◌∷◌, ◌++◌, All, map, IfSome, slice_get, Some, codes}
+use Rattle.std.specs.List.{Contains}
 use Rattle.std.specs.declared.option.Option.{Option}
 use Rattle.cube_core.specs.Function.{Function}
 use Rattle.defect_array.specs.declared.place.PlaceFault.{PlaceFault}
@@ -22,13 +22,13 @@ use Rattle.lattice_question.specs.Written.{IsSectionOf, HasNoSection, IsShown}
 use Rattle.area_search.specs.declared.fault.SearchFault.{SearchFault}
 use Rattle.area_search.specs.declared.fault.SearchFault.TheVariants as searched
 use Rattle.four_lattice.specs.Devices.{Change, Failed, GainsTold}
-use Rattle.four_lattice.specs.Synth.{Sought, Least, OnArray, Holds, IsNamed, IsHeld, IsShownIn, AreAnswers, BeginAnswers, answers_of, is_undecided, IsFront}
+use Rattle.four_lattice.specs.Synth.{Sought, Least, OnArray, Holds, IsNamed, IsHeld, IsShownIn, AreAnswers, BeginAnswers, answers_of, IsFront}
+use Rattle.four_lattice.specs.Trial.{tally_of, answers_in, AreTried, BeginTried}
 use Rattle.four_lattice.specs.declared.ending.Ending.{Ending}
 use Rattle.four_lattice.specs.declared.ending.Ending.TheVariants as ending
 use Rattle.four_lattice.specs.declared.lattices.WorkFault.{WorkFault}
 use Rattle.four_lattice.specs.declared.lattices.WorkFault.TheVariants.{Write, NoMemory}
-use Rattle.four_lattice.specs.declared.synth.Decision.{Decision}
-use Rattle.four_lattice.specs.declared.synth.Decision.TheVariants.{Decided, Undecided}
+use Rattle.four_lattice.specs.declared.tally.Tally.{Tally}
 
 -- what is sought, the rails, the most conflicts for a question, and the PLA
 pub record Asked : Type 0 where
@@ -49,9 +49,18 @@ abbrev pub basis_of : Asked → Basis
 basis_of a = record { parts = a.parts; version = Two; rails = a.rails }
 
 -- whether an answer is undecided
-abbrev pub is_open : Decision → Bool
-is_open Decided = false
-is_open Undecided = true
+abbrev pub is_open : Tally → Bool
+is_open t = nat_lt 0 t.undecided
+
+-- the tally of these answers and those
+abbrev pub joined : Tally → Tally → Tally
+joined s t = record { minimum = s.minimum + t.minimum; undecided = s.undecided + t.undecided; area = s.area + t.area }
+
+-- A tally of at most so many answers, none of which has more than 1,048,576 cells.
+pub record IsTallyOf (many : ℕ) (t : Tally) : Type 0 where
+  pub minimum : t.minimum ≤ many
+  pub undecided : t.undecided ≤ many
+  pub area : t.area ≤ many * 1048576
 
 -- a fault of writing comes only where one of the sinks failed
 abbrev pub HasSinkCause : WorkFault → Change → Change → Type 0
@@ -93,10 +102,10 @@ pub record CutsOutput (a : Asked) (output : ℕ) (journal : Change) : Type 0 whe
   pub front : GainsFront journal.old.told journal.new.told (parts_text Two (more ++ Answered block ∷ []))
 
 -- The journal got the answer of the output, and `out` its block.
-pub record WroteOutput (a : Asked) (output : ℕ) (decision : Decision) (out journal : Change) : Type 0 where
+pub record WroteOutput (a : Asked) (output : ℕ) (tally : Tally) (out journal : Change) : Type 0 where
   pub block : BlockParts
   pub answers : AnswersOutput a output block journal
-  pub decided : is_open decision ≡ is_undecided block.answer
+  pub tallied : tally ≡ tally_of (block.answer ∷ [])
   pub gained : Gains out.old.told out.new.told (block_text Two block)
   pub later : BothLater out journal
 
@@ -129,10 +138,10 @@ pub record IsLeft (a : Asked) (outputs : List ℕ) (blocks : List BlockParts) (p
   pub bounds : All (IsPart Two) pending
 
 -- The blocks of the outputs were written, and the parts that show them, which are right.
-pub record WroteBlocks (a : Asked) (outputs : List ℕ) (decision : Decision) (out journal : Change) : Type 0 where
+pub record WroteBlocks (a : Asked) (outputs : List ℕ) (tally : Tally) (out journal : Change) : Type 0 where
   pub settled : Settled a outputs journal.new.told
   pub right : IfSome journal.new.told (λ _. AreRight (basis_of a) settled.all)
-  pub decided : is_open decision ≡ list_any (λ block. is_undecided block.answer) settled.blocks
+  pub tallied : tally ≡ tally_of (answers_in settled.blocks)
   pub out_gained : Gains out.old.told out.new.told (blocks_text Two settled.blocks)
   pub journal_gained : Gains journal.old.told journal.new.told (parts_text Two settled.all)
   pub later : BothLater out journal
@@ -181,29 +190,49 @@ pub record StoppedEnds (fault : WorkFault) (out journal : Change) : Type 0 where
   pub later : BothLater out journal
   pub cause : HasSinkCause fault out journal
 
--- The report and the journal were written.
-pub record WroteAnswers (a : Asked) (output : Option ℕ) (decision : Decision) (out journal : Change) : Type 0 where
+-- A text and a journal of which this holds were written.
+pub record WroteAll (Holds : List ℕ → Option (List ℕ) → Type 0) (out journal : Change) : Type 0 where
   pub bytes : List ℕ
   pub told : Option (List ℕ)
-  pub answers : AreAnswers a.sought a.rails a.budget output a.parts bytes told (is_open decision)
+  pub holds : Holds bytes told
   pub out_gained : Gains out.old.told out.new.told bytes
   pub journal_gained : GainsTold journal.old.told journal.new.told told
   pub later : BothLater out journal
 
--- Fronts of them were written.
-pub record StoppedAnswers (a : Asked) (output : Option ℕ) (fault : WorkFault) (out journal : Change) : Type 0 where
+-- What was written of a text and a journal stands so.
+pub record StoppedWriting (Stands : List ℕ → Option (List ℕ) → Type 0) (fault : WorkFault) (out journal : Change) : Type 0 where
   pub bytes : List ℕ
   pub told : Option (List ℕ)
-  pub begins : BeginAnswers a.sought a.rails a.budget output a.parts bytes told
+  pub stands : Stands bytes told
   pub out_gained : Gains out.old.told out.new.told bytes
   pub journal_gained : GainsTold journal.old.told journal.new.told told
   pub later : BothLater out journal
   pub cause : HasSinkCause fault out journal
 
+-- The report and the journal are the answers, with this tally.
+pub record AreTallied (a : Asked) (output : Option ℕ) (tally : Tally) (bytes : List ℕ) (told : Option (List ℕ)) : Type 0 where
+  pub answers : AreAnswers a.sought a.rails a.budget output a.parts bytes told (is_open tally)
+  pub tallied : tally ≡ tally_of (answers_in answers.report.blocks)
+
+-- The report and the journal were written.
+abbrev pub WroteAnswers : Asked → Option ℕ → Tally → Change → Change → Type 0
+WroteAnswers a output tally out journal = WroteAll (AreTallied a output tally) out journal
+
+-- Fronts of them were written.
+abbrev pub StoppedAnswers : Asked → Option ℕ → WorkFault → Change → Change → Type 0
+StoppedAnswers a output fault out journal = StoppedWriting (BeginAnswers a.sought a.rails a.budget output a.parts) fault out journal
+
+-- All of a trial was written.
+abbrev pub WroteTried : (number budget : ℕ) → Parts → Tally → Change → Change → Type 0
+WroteTried number budget parts tally out journal = WroteAll (λ bytes told. AreTried number budget parts bytes told (is_open tally)) out journal
+
+-- Fronts of it were written.
+abbrev pub StoppedTried : (number budget : ℕ) → Parts → WorkFault → Change → Change → Type 0
+StoppedTried number budget parts fault out journal = StoppedWriting (BeginTried number budget parts) fault out journal
+
 -- how a run ends whose work was done
-abbrev pub decision_ending : Decision → Ending
-decision_ending Decided = ending.Done
-decision_ending Undecided = ending.Undecided
+abbrev pub tally_ending : Tally → Ending
+tally_ending t = if is_open t then ending.Undecided else ending.Done
 
 -- what stops a command whose search stopped so
 abbrev pub fault_of_search : SearchFault → WorkFault

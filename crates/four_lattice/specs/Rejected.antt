@@ -1,5 +1,5 @@
 -- What a run does with the finders that it was lent.
-use Rattle.std.specs.Prelude.{◌≡◌, ◌⊎◌, ℕ, ◌+◌, List, [], ◌∷◌, ◌++◌, All, length, map, slice_get, Some}
+use Rattle.std.specs.Prelude.{◌≡◌, ◌⊎◌, ℕ, ◌+◌, List, [], ◌∷◌, ◌++◌, All, length, map, slice_get, None, Some}
 use Rattle.std.specs.List.{Contains}
 use Rattle.std.specs.declared.option.Option.{Option}
 use Rattle.cube_core.specs.Function.{Function}
@@ -11,7 +11,7 @@ use Rattle.lattice_grid.specs.Rails.{IsFull}
 use Rattle.pla_reader.specs.Parts.{Parts}
 use Rattle.wire_io.specs.Causes.{Rose}
 use Rattle.area_search.specs.Answer.{AreUsed}
-use Rattle.four_lattice.specs.Judge.{Judgement, Accepted, Minima}
+use Rattle.four_lattice.specs.Judge.{Judgement, Accepted, Minima, Tried}
 use Rattle.four_lattice.specs.Synth.{chosen_outputs}
 use Rattle.four_lattice.specs.declared.ending.Ending.{Ending}
 use Rattle.four_lattice.specs.declared.ending.Ending.TheVariants.{Done, Undecided}
@@ -64,11 +64,16 @@ IsStatusOfWork s = (s ≡ status.Done) ⊎ (s ≡ status.Undecided)
 abbrev pub IsWorkDone : Ending → Type 0
 IsWorkDone e = (e ≡ Done) ⊎ (e ≡ Undecided)
 
--- The texts are accepted as lattices of least area of chosen outputs of a PLA, and the finders were used for these.
+-- The task asks finders for lattices of chosen outputs of a PLA: those of least area, or all of a trial.
+abbrev pub AsksFinders : (Judgement → Type 0) → (rails : ℕ) → Option ℕ → Parts → Type 0
+AsksFinders J rails output parts =
+    ((budget : ℕ) × J (Accepted (Minima rails budget output parts)))
+    ⊎ ((number : ℕ) × (budget : ℕ) × J (Accepted (Tried number budget parts)) × (rails ≡ 1048575) × (output ≡ None))
+
+-- The texts are accepted as such a task, and the finders were used for its outputs.
 pub record UsesFinders {F : Type 0} (J : Judgement → Type 0) (begun left : F → ℕ) (old new : List F) (dropped : List Rejected) : Type 0 where
   pub rails : ℕ
-  pub budget : ℕ
   pub output : Option ℕ
   pub parts : Parts
-  pub accepted : J (Accepted (Minima rails budget output parts))
+  pub accepted : AsksFinders J rails output parts
   pub asked : AreAskedWhereFull begun left rails parts (chosen_outputs output parts.outputs) old new dropped

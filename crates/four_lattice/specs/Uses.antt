@@ -2,7 +2,7 @@
 use Rattle.std.specs.Prelude.{ℕ, Bool, true, false, None, Some}
 use Rattle.std.specs.declared.option.Option.{Option}
 use Rattle.four_lattice.specs.declared.words.Job.{Job}
-use Rattle.four_lattice.specs.declared.words.Job.TheVariants.{Pairs, Dual, Cnf, Verify, Check, Audit, Synth, Map, Renew}
+use Rattle.four_lattice.specs.declared.words.Job.TheVariants.{Pairs, Dual, Cnf, Verify, Check, Audit, Synth, Map, Renew, Trial}
 
 -- whether the standard input is read, and the side file, whether a journal is written, and finders are asked
 pub record Uses : Type 0 where
@@ -26,6 +26,9 @@ pla_journal_and_finders = record { pla = true; side = false; journal = true; fin
 abbrev pub pla_and_journal : Uses
 pla_and_journal = record { pla = true; side = false; journal = true; finders = false }
 
+abbrev pub journal_and_finders : Uses
+journal_and_finders = record { pla = false; side = false; journal = true; finders = true }
+
 -- the table of devices
 abbrev pub uses_of : Job → Uses
 uses_of (Pairs output) = pla_alone
@@ -37,6 +40,7 @@ uses_of Audit = pla_and_side
 uses_of Renew = pla_and_side
 uses_of (Synth conflicts output rails) = pla_journal_and_finders
 uses_of (Map conflicts output) = pla_and_journal
+uses_of (Trial conflicts number) = journal_and_finders
 
 -- words that ask for no job use nothing
 abbrev pub uses : Option Job → Uses
@@ -64,6 +68,7 @@ most_bytes_of Audit = most_pla_bytes
 most_bytes_of Renew = most_pla_bytes
 most_bytes_of (Synth conflicts output rails) = most_pla_bytes
 most_bytes_of (Map conflicts output) = most_pla_bytes
+most_bytes_of (Trial conflicts number) = 0
 
 abbrev pub most_bytes : Option Job → ℕ
 most_bytes None = 0

@@ -7,8 +7,8 @@ use Rattle.clap.specs.Words.{App, Rule, new_app, new_rule, found_of, one_text}
 use Rattle.clap.specs.declared.builder.value_parser.ValueParser.TheVariants as vp
 use Rattle.clap.specs.declared.parser.matches.ArgMatches.{ArgMatches}
 use Rattle.four_lattice.specs.declared.words.Verb.{Verb}
-use Rattle.four_lattice.specs.declared.words.Verb.TheVariants.{Pairs, Dual, Cnf, Verify, Check, Audit, Synth, Map, Renew}
-use Rattle.four_lattice.specs.Words.{Row, Setting, Given, is_number, is_plain, number_given}
+use Rattle.four_lattice.specs.declared.words.Verb.TheVariants.{Pairs, Dual, Cnf, Verify, Check, Audit, Synth, Map, Renew, Trial}
+use Rattle.four_lattice.specs.Words.{Row, Setting, Given, is_number, is_small, is_plain, number_given}
 
 -- the names of all options
 abbrev pub option_names : List (List ℕ)
@@ -45,6 +45,7 @@ verb_name Audit = codes "audit"
 verb_name Renew = codes "renew"
 verb_name Synth = codes "synth"
 verb_name Map = codes "map"
+verb_name Trial = codes "trial"
 
 -- a row of the table as `clap` is told of it
 abbrev pub row_rules : Row → List Rule
@@ -52,10 +53,6 @@ row_rules row = map number_rule row.options ++ (if row.wants_file then file_rule
 
 abbrev pub row_app : List ℕ → Row → App
 row_app name row = record (bare_app name) { top = record (bare_app name).top { rules = row_rules row } }
-
--- a number that fits 32 bits
-abbrev pub is_small : List ℕ → Bool
-is_small word = is_number word && nat_lt (digits_value 10 word) (2 ^ 32)
 
 -- The matches show what was given: each name but the file's has the text of its number.
 pub record Shows (given : Given) (m : ArgMatches) : Type 0 where

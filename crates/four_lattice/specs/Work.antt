@@ -8,12 +8,13 @@ use Rattle.lattice_grid.specs.Rectangle.{Size}
 use Rattle.reach_encoding.specs.Encoding.{Question, encoding}
 use Rattle.report_text.specs.Report.{ReportParts, report_text}
 use Rattle.journal_text.specs.Parts.{JournalParts}
-use Rattle.four_lattice.specs.Judge.{Task, Lattices, Encoding, Realised, Refuted, Confirmed, Minima, Placed, Renewed}
+use Rattle.four_lattice.specs.Judge.{Task, Lattices, Encoding, Realised, Refuted, Confirmed, Minima, Placed, Renewed, Tried}
 use Rattle.journal_text.specs.Text.{journal_text}
 use Rattle.audit_core.specs.Renewed.{IsRenewed}
 use Rattle.pla_reader.specs.Parts.{Parts}
 use Rattle.four_lattice.specs.Lattices.{report_by}
 use Rattle.four_lattice.specs.Synth.{Least, OnArray, IsFront, answers_of, AreAnswers, BeginAnswers}
+use Rattle.four_lattice.specs.Trial.{AreTried, BeginTried}
 use Rattle.four_lattice.specs.Verified.{IsVerified}
 
 -- what the standard output and the journal got, where the journal tells, and whether an answer in it is undecided
@@ -67,6 +68,7 @@ Does (Confirmed journal) w = Says (confirmed_text journal) w
 Does (Renewed parts journal) w = SaysAnew parts journal w
 Does (Minima rails budget output parts) w = AreAnswers Least rails budget output parts w.out w.journal w.undecided
 Does (Placed budget output a parts) w = AreAnswers (OnArray a) 1048575 budget (Some output) parts w.out w.journal w.undecided
+Does (Tried number budget parts) w = AreTried number budget parts w.out w.journal w.undecided
 
 -- What stands of it where it broke off.
 abbrev pub Begins : Task → List ℕ → Option (List ℕ) → Type 0
@@ -78,3 +80,4 @@ Begins (Confirmed audited) out journal = SaysFront (confirmed_text audited) out 
 Begins (Renewed parts audited) out journal = SaysAnewFront parts audited out journal
 Begins (Minima rails budget output parts) out journal = BeginAnswers Least rails budget output parts out journal
 Begins (Placed budget output a parts) out journal = BeginAnswers (OnArray a) 1048575 budget (Some output) parts out journal
+Begins (Tried number budget parts) out journal = BeginTried number budget parts out journal

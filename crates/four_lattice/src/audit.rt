@@ -3,12 +3,13 @@ ghost use Rattle.std.specs.Prelude.{◌≡◌, ◌≢◌, ◌≤◌, ◌⊎◌, 
 ghost use Rattle.audit_core.specs.Audit.{Audited};
 ghost use Rattle.audit_core.specs.declared.refusal.AuditRefusal.{AuditRefusal};
 ghost use Rattle.journal_text.specs.Bounds.{IsJournal};
-ghost use Rattle.journal_text.specs.Parts.{parts_of_journal};
+ghost use Rattle.journal_text.specs.Parts.{JournalParts, parts_of_journal};
 ghost use Rattle.journal_text.specs.Reading.{HasLineNumbers};
 ghost use Rattle.journal_text.specs.Text.{journal_text};
 ghost use Rattle.pla_reader.specs.Parts.{Parts, parts_of, IsPla};
 ghost use Rattle.wire_io.specs.Causes.{HasCause};
-ghost use Rattle.wire_io.specs.Told.{Gains, GainsFront};
+ghost use Rattle.wire_io.specs.Told.{Gains, GainsFront, IsSpent, LosesUpTo};
+ghost use Rattle.four_lattice.specs.SideAudit.{EndsAs, EndsAudit, HasConfirmed};
 ghost use Rattle.four_lattice.specs.Devices.{change, EndsTest};
 ghost use Rattle.four_lattice.specs.Judge.{Unconfirms, PlaGives, AuditComes, IsGranted};
 ghost use Rattle.four_lattice.specs.Run.{FinishesQuiet};
@@ -16,9 +17,10 @@ ghost use Rattle.four_lattice.specs.Synth.{answers_of};
 ghost use Rattle.four_lattice.specs.Uses.{pla_and_side, most_pla_bytes, most_side_bytes};
 
 use crate::ending::{Ending, Refusal, Unconfirmed};
-use crate::inputs::{input_journal, input_pla};
+use crate::inputs::{ending_of_journal, input_pla, input_side};
 use audit_core::audit::audit;
-use audit_core::refusal::AuditRefusal;
+use audit_core::refusal::{AuditRefusal, TextRefusal};
+use audit_core::text::audit_text;
 use itoa::Buffer;
 use journal_text::journal::Journal;
 use pla_reader::pla::Pla;
@@ -50,6 +52,16 @@ fn ending_of_audit(refusal: AuditRefusal) -> Ending
     }
 }
 
+/// How a run ends whose text of a journal is refused.
+fn ending_of_text(refusal: TextRefusal) -> Ending
+    ensures { EndsAs refusal result }
+{
+    match refusal {
+        TextRefusal::Form(refusal) => ending_of_journal(refusal),
+        TextRefusal::Audit(refusal) => ending_of_audit(refusal),
+    }
+}
+
 /// Tests a journal against a PLA: the number of its answers where it is right, or else how the run ends.
 pub(crate) fn confirm(alloc: Global, text: &Pla, journal: &Journal) -> Result<u64, Ending>
     requires pla { IsPla (parts_of text.now) }
@@ -63,6 +75,26 @@ pub(crate) fn confirm(alloc: Global, text: &Pla, journal: &Journal) -> Result<u6
     match audit(alloc, text, journal) {
         Ok(confirmed) => Ok(confirmed.len() as u64),
         Err(refusal) => Err(ending_of_audit(refusal)),
+    }
+}
+
+/// Tests the journal that a side file is against a PLA, as it is read: the number of its answers where it is right, or
+/// else how the run ends.
+fn confirm_side<S: Source>(alloc: Global, text: &Pla, side: &mut S) -> Result<u64, Ending>
+    requires pla { IsPla (parts_of text.now) }
+    ensures confirmed { IfOk result (λ many. (journal : JournalParts) × HasConfirmed (parts_of text.now) (S.left side.old) journal many) }
+    ensures spent { OnOk result (IsSpent (S.left side.new)) }
+    ensures taken { OnOk result (LosesUpTo (S.left side.old) (S.left side.new) most_side_bytes) }
+    ensures ends { IfErr result (λ ending. EndsAudit (parts_of text.now) ending (change (S.left side.old) (S.faults side.old) (S.left side.new) (S.faults side.new))) }
+    ensures later { S.faults side.old ≤ S.faults side.new }
+{
+    let bytes = match input_side(alloc, side) {
+        Ok(bytes) => bytes,
+        Err(ending) => return Err(ending),
+    };
+    match audit_text(alloc, text, &bytes) {
+        Ok(confirmed) => Ok(confirmed.len() as u64),
+        Err(refusal) => Err(ending_of_text(refusal)),
     }
 }
 
@@ -94,11 +126,7 @@ pub(crate) fn end_of_audit<S: Source, K: Sink>(
         Ok(text) => text,
         Err(ending) => return ending,
     };
-    let journal = match input_journal(alloc, side) {
-        Ok(journal) => journal,
-        Err(ending) => return ending,
-    };
-    let many = match confirm(alloc, &text, &journal) {
+    let many = match confirm_side(alloc, &text, side) {
         Ok(many) => many,
         Err(ending) => return ending,
     };

@@ -50,7 +50,14 @@ fn replayed_to(fault: StepFault, line: u32) -> Replayed
 {
     match fault {
         StepFault::NoMemory => Replayed::NoMemory,
-        _ => Replayed::Refused { fault, line },
+        StepFault::Order
+        | StepFault::Unknown
+        | StepFault::Satisfied
+        | StepFault::Loose
+        | StepFault::NoConflict
+        | StepFault::Rat
+        | StepFault::Tautology
+        | StepFault::Variable => Replayed::Refused { fault, line },
     }
 }
 

@@ -12,7 +12,7 @@ ghost use Rattle.pla_reader.specs.Reading.{Reads};
 ghost use Rattle.report_text.specs.Bounds.{IsReport};
 ghost use Rattle.report_text.specs.Reading.{Gives};
 ghost use Rattle.report_text.specs.Report.{parts_of_report};
-ghost use Rattle.wire_io.specs.Told.{IsSpent, LosesUpTo};
+ghost use Rattle.wire_io.specs.Told.{IsSpent, Loses, LosesUpTo};
 ghost use Rattle.four_lattice.specs.Check.{end_line};
 ghost use Rattle.four_lattice.specs.Devices.{change, unread, EndsTest};
 ghost use Rattle.four_lattice.specs.Inputs.{EndsPla, EndsCnf, EndsLrat, EndsReport, EndsJournal, RefusesArray};
@@ -63,7 +63,23 @@ fn ending_of_pla(refusal: PlaRefusal) -> Ending
 {
     match refusal {
         PlaRefusal::NoMemory => Ending::NoMemory,
-        _ => Ending::Refused(Refusal::Input(InputRefusal::Pla(refusal))),
+        PlaRefusal::TooLong
+        | PlaRefusal::BadByte { .. }
+        | PlaRefusal::UnknownWord { .. }
+        | PlaRefusal::Unsupported { .. }
+        | PlaRefusal::Repeated { .. }
+        | PlaRefusal::BadNumber { .. }
+        | PlaRefusal::Late { .. }
+        | PlaRefusal::Missing { .. }
+        | PlaRefusal::Inputs { .. }
+        | PlaRefusal::Outputs { .. }
+        | PlaRefusal::RowLength { .. }
+        | PlaRefusal::BadDigit { .. }
+        | PlaRefusal::Names { .. }
+        | PlaRefusal::TooManyRows { .. }
+        | PlaRefusal::Conflict { .. } => {
+            Ending::Refused(Refusal::Input(InputRefusal::Pla(refusal)))
+        }
     }
 }
 
@@ -74,7 +90,14 @@ fn ending_of_cnf(refusal: CnfRefusal) -> Ending
 {
     match refusal {
         CnfRefusal::NoMemory => Ending::NoMemory,
-        _ => Ending::Refused(Refusal::Input(InputRefusal::Cnf(refusal))),
+        CnfRefusal::Header { .. }
+        | CnfRefusal::Literal { .. }
+        | CnfRefusal::Count { .. }
+        | CnfRefusal::Unended { .. }
+        | CnfRefusal::TooLong
+        | CnfRefusal::TooLarge { .. } => {
+            Ending::Refused(Refusal::Input(InputRefusal::Cnf(refusal)))
+        }
     }
 }
 
@@ -85,7 +108,9 @@ fn ending_of_lrat(refusal: LratRefusal) -> Ending
 {
     match refusal {
         LratRefusal::NoMemory => Ending::NoMemory,
-        _ => Ending::Refused(Refusal::Side(SideRefusal::Lrat(refusal))),
+        LratRefusal::Word { .. } | LratRefusal::Form { .. } => {
+            Ending::Refused(Refusal::Side(SideRefusal::Lrat(refusal)))
+        }
     }
 }
 
@@ -96,12 +121,21 @@ fn ending_of_report(refusal: ReportRefusal) -> Ending
 {
     match refusal {
         ReportRefusal::NoMemory => Ending::NoMemory,
-        _ => Ending::Refused(Refusal::Side(SideRefusal::Report(refusal))),
+        ReportRefusal::Header { .. }
+        | ReportRefusal::Inputs { .. }
+        | ReportRefusal::Rails { .. }
+        | ReportRefusal::Block { .. }
+        | ReportRefusal::Grid { .. }
+        | ReportRefusal::Proofs { .. }
+        | ReportRefusal::Trailing { .. }
+        | ReportRefusal::Truncated { .. } => {
+            Ending::Refused(Refusal::Side(SideRefusal::Report(refusal)))
+        }
     }
 }
 
 /// How a run ends that refuses the text of a journal.
-fn ending_of_journal(refusal: JournalRefusal) -> Ending
+pub(crate) fn ending_of_journal(refusal: JournalRefusal) -> Ending
     ensures refused { refusal ≢ JournalRefusal.NoMemory → result ≡ Ending.Refused (Refusal.Side (SideRefusal.Journal refusal)) }
     ensures wanting { refusal ≡ JournalRefusal.NoMemory → result ≡ Ending.NoMemory }
 {
@@ -273,6 +307,20 @@ pub(crate) fn input_report<S: Source>(alloc: Global, side: &mut S) -> Result<Rep
     match read_report(alloc, &bytes) {
         Ok(report) => Ok(report),
         Err(refusal) => Err(ending_of_report(refusal)),
+    }
+}
+
+/// The bytes of a side file that is to be a journal, or how the run ends.
+pub(crate) fn input_side<S: Source>(alloc: Global, side: &mut S) -> Result<Vec<u8>, Ending>
+    ensures all { IfOk result (λ bytes. Loses (S.left side.old) (S.left side.new) bytes.items) }
+    ensures few { IfOk result (λ bytes. length bytes.items ≤ most_side_bytes) }
+    ensures spent { OnOk result (IsSpent (S.left side.new)) }
+    ensures ends { IfErr result (λ ending. EndsJournal ending (change (S.left side.old) (S.faults side.old) (S.left side.new) (S.faults side.new))) }
+    ensures later { S.faults side.old ≤ S.faults side.new }
+{
+    match read_all(alloc, side, MOST_SIDE_BYTES) {
+        Ok(bytes) => Ok(bytes),
+        Err(fault) => Err(ending_of_read(fault, Refusal::Side(SideRefusal::TooLong))),
     }
 }
 

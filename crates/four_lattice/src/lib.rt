@@ -13,5 +13,7 @@ mod renew;
 pub mod run;
 pub mod status;
 mod synth;
+mod tally;
+mod trial;
 pub mod verify;
 pub mod words;

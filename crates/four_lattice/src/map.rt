@@ -12,7 +12,8 @@ ghost use Rattle.four_lattice.specs.Uses.{pla_and_journal, most_pla_bytes};
 use crate::ending::{Ending, Finished, InputRefusal, Refusal};
 use crate::inputs::{input_array, input_text};
 use crate::lattices::{WorkFault, has_output};
-use crate::synth::{Decision, write_ends, write_heads};
+use crate::synth::{write_ends, write_heads};
+use crate::tally::Tally;
 use audit_core::laws::right_where_shown;
 use defect_array::place::{PlaceFault, place};
 use journal_text::writer::JournalWriter;
@@ -105,7 +106,7 @@ fn write_output<K: Sink>(
     array: Array,
     conflicts: u32,
     writer: JournalWriter<K>,
-) -> Result<(Decision, JournalWriter<K>), Stopped<WorkFault, K>>
+) -> Result<(Tally, JournalWriter<K>), Stopped<WorkFault, K>>
     requires pla { IsPla (parts_of pla.now) }
     requires there { output < pla.now.outputs }
     requires conflicts { conflicts ≤ 200000 }
@@ -125,7 +126,7 @@ fn write_output<K: Sink>(
             held: writer.into_sink(),
         });
     }
-    Ok((Decision::of(&block.answer), writer))
+    Ok((Tally::of(&block.answer), writer))
 }
 
 /// Writes the report and the journal of an output on the array.
@@ -137,7 +138,7 @@ fn write_placed<K: Sink>(
     array: Array,
     conflicts: u32,
     journal: K,
-) -> Result<(Decision, K), Stopped<WorkFault, K>>
+) -> Result<(Tally, K), Stopped<WorkFault, K>>
     requires pla { IsPla (parts_of pla.now) }
     requires there { output < pla.now.outputs }
     requires conflicts { conflicts ≤ 200000 }
@@ -151,9 +152,9 @@ fn write_placed<K: Sink>(
 {
     right_where_shown();
     let writer = write_heads(out, pla, Rails::all(), journal)?;
-    let (decision, writer) = write_output(alloc, out, pla, output, array, conflicts, writer)?;
+    let (tally, writer) = write_output(alloc, out, pla, output, array, conflicts, writer)?;
     let journal = write_ends(out, writer)?;
-    Ok((decision, journal))
+    Ok((tally, journal))
 }
 
 /// How the command `map` ends.
@@ -195,8 +196,8 @@ pub(crate) fn end_of_map<S: Source, K: Sink>(
         Err(ending) => return Finished { ending, journal },
     };
     match write_placed(alloc, out, &text.pla, output, array, conflicts, journal) {
-        Ok((decision, journal)) => Finished {
-            ending: decision.ending(),
+        Ok((tally, journal)) => Finished {
+            ending: tally.ending(),
             journal,
         },
         Err(Stopped { fault, held }) => Finished {

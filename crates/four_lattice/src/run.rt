@@ -19,6 +19,7 @@ use crate::notes::write_note;
 use crate::renew::end_of_renew;
 use crate::status::Status;
 use crate::synth::{Rejected, end_of_synth};
+use crate::trial::end_of_trial;
 use crate::verify::end_of_verify;
 use crate::words::{Job, WordsFault, settings};
 use finder_set::finder::Finder;
@@ -59,6 +60,7 @@ fn end_of_job<S: Source, K: Sink>(
     ensures side_last { (side.new ≡ side.old) ⊎ Opens (Some job) (record { pla = S.left pla.old; side = S.left side.old }) }
     ensures out_last { (out.new ≡ out.old) ⊎ IsGranted (JobComes IfSome job (record { pla = S.left pla.old; side = S.left side.old })) }
     ensures journal_last { (result.journal ≡ journal) ⊎ IsGranted (JobComes IfSome job (record { pla = S.left pla.old; side = S.left side.old })) }
+    ensures pla_kept { (uses_of job).pla ≡ false → pla.new ≡ pla.old }
     ensures side_kept { (uses_of job).side ≡ false → side.new ≡ side.old }
     ensures journal_kept { (uses_of job).journal ≡ false → result.journal ≡ journal }
     ensures finders_kept { (uses_of job).finders ≡ false → (finders.new ≡ finders.old) × (rejected.new ≡ rejected.old) }
@@ -102,6 +104,9 @@ fn end_of_job<S: Source, K: Sink>(
         ),
         Job::Map { conflicts, output } => {
             end_of_map(alloc, output, conflicts, pla, side, out, journal)
+        }
+        Job::Trial { conflicts, number } => {
+            end_of_trial(alloc, number, conflicts, out, finders, rejected, journal)
         }
     }
 }

@@ -1,20 +1,22 @@
 //! The command `synth`.
-ghost use Rattle.std.specs.Prelude.{◌≡◌, ◌⊎◌, ℕ, ◌-◌, ◌^◌, ◌<◌, ◌≤◌, ◌||◌, ◌++◌, false, [], map, vec_len, IfOk, IfErr, IfSome, OnOk};
+ghost use Rattle.std.specs.Prelude.{◌≡◌, ◌⊎◌, ℕ, ◌-◌, ◌^◌, ◌<◌, ◌≤◌, ◌++◌, false, [], map, vec_len, IfOk, IfErr, IfSome, OnOk};
 ghost use Rattle.std.specs.List.{range_with_len};
 ghost use Rattle.pla_reader.specs.Parts.{parts_of, IsPla};
 ghost use Rattle.report_text.specs.Report.{parts_of_block};
 ghost use Rattle.four_lattice.specs.Devices.{change};
 ghost use Rattle.four_lattice.specs.Judge.{SynthComes, IsGranted};
 ghost use Rattle.four_lattice.specs.Lattices.{IsThere, IsWriteCause};
-ghost use Rattle.four_lattice.specs.Minima.{asked, is_open, AnswersOutput, CutsOutput, WroteOutput, StoppedOutput, WroteBlocks, StoppedBlocks, WroteHeads, StoppedHeads, WroteEnds, StoppedEnds, WroteAnswers, StoppedAnswers, decision_ending, fault_of_search};
+ghost use Rattle.four_lattice.specs.Minima.{asked, AnswersOutput, CutsOutput, WroteOutput, StoppedOutput, WroteBlocks, StoppedBlocks, WroteHeads, StoppedHeads, WroteEnds, StoppedEnds, WroteAnswers, StoppedAnswers, IsTallyOf, fault_of_search};
 ghost use Rattle.four_lattice.specs.Rejected.{rejected_for, AreAskedWhereFull, AreUsedOnce, IsWorkDone, UsesFinders};
 ghost use Rattle.four_lattice.specs.Run.{Finishes};
-ghost use Rattle.four_lattice.specs.Synth.{chosen_outputs, is_undecided};
+ghost use Rattle.four_lattice.specs.Synth.{chosen_outputs};
+ghost use Rattle.four_lattice.specs.Trial.{HasSteps};
 ghost use Rattle.four_lattice.specs.Uses.{pla_journal_and_finders, most_pla_bytes};
 
 use crate::ending::{Ending, Finished, InputRefusal, Refusal};
 use crate::inputs::input_pla;
 use crate::lattices::{WorkFault, has_output};
+use crate::tally::Tally;
 use area_search::fault::SearchFault;
 use area_search::least::search;
 use audit_core::laws::right_where_shown;
@@ -24,55 +26,12 @@ use journal_text::writer::JournalWriter;
 use lattice_grid::grid::Grid;
 use lattice_grid::rails::Rails;
 use pla_reader::pla::Pla;
-use report_text::answer::{Answer, Block};
+use report_text::answer::Block;
 use report_text::write::{write_block, write_end, write_head};
 use std::alloc::Global;
 use wire_io::fault::{NoMemory as OutOfMemory, Stopped};
 use wire_io::sink::Sink;
 use wire_io::source::Source;
-
-/// Whether answers are all decided.
-#[derive(Clone, Copy, Debug, PartialEq, Eq)]
-pub(crate) enum Decision {
-    Decided,
-    Undecided,
-}
-
-impl Decision {
-    /// Of an answer.
-    pub(crate) fn of(answer: &Answer) -> Decision
-        ensures { is_open result ≡ is_undecided answer.now }
-    {
-        match answer {
-            Answer::Undecided { .. } | Answer::MapUndecided { .. } => Decision::Undecided,
-            Answer::Found(_)
-            | Answer::Minimum(_)
-            | Answer::Mapped { .. }
-            | Answer::NoneMapped { .. }
-            | Answer::NoRails { .. } => Decision::Decided,
-        }
-    }
-
-    /// Of these answers and those.
-    fn and(self, other: Decision) -> Decision
-        ensures { is_open result ≡ (is_open self || is_open other) }
-    {
-        match self {
-            Decision::Decided => other,
-            Decision::Undecided => Decision::Undecided,
-        }
-    }
-
-    /// How a run ends whose work was done.
-    pub(crate) fn ending(self) -> Ending
-        ensures { result ≡ decision_ending self }
-    {
-        match self {
-            Decision::Decided => Ending::Done,
-            Decision::Undecided => Ending::Undecided,
-        }
-    }
-}
 
 /// A proposal for which a finder was dropped, and the output for which it was made.
 #[derive(Drop)]
@@ -191,13 +150,14 @@ fn write_output<K: Sink>(
     finders: &mut Vec<Box<dyn Finder>>,
     rejected: &mut Vec<Rejected>,
     writer: JournalWriter<K>,
-) -> Result<(Decision, JournalWriter<K>), Stopped<WorkFault, K>>
+) -> Result<(Tally, JournalWriter<K>), Stopped<WorkFault, K>>
     requires few { vec_len finders.old < 2 ^ 32 }
     requires pla { IsPla (parts_of pla.now) }
     requires there { output < pla.now.outputs }
     requires conflicts { conflicts ≤ 200000 }
     requires whole { writer.failed ≡ false }
     ensures whole { IfOk result (λ pair. pair.1.failed ≡ false) }
+    ensures few { IfOk result (λ pair. IsTallyOf 1 pair.0) }
     ensures wrote { IfOk result (λ pair. WroteOutput (asked rails conflicts (parts_of pla.now)) output pair.0
         (change (K.got out.old) (K.faults out.old) (K.got out.new) (K.faults out.new))
         (change (K.got writer.sink) (K.faults writer.sink) (K.got pair.1.sink) (K.faults pair.1.sink))) }
@@ -216,7 +176,7 @@ fn write_output<K: Sink>(
             held: writer.into_sink(),
         });
     }
-    Ok((Decision::of(&block.answer), writer))
+    Ok((Tally::of(&block.answer), writer))
 }
 
 /// Answers for each output from `first` on that is below `end`, one after another.
@@ -231,7 +191,7 @@ fn write_outputs<K: Sink>(
     finders: &mut Vec<Box<dyn Finder>>,
     rejected: &mut Vec<Rejected>,
     writer: JournalWriter<K>,
-) -> Result<(Decision, JournalWriter<K>), Stopped<WorkFault, K>>
+) -> Result<(Tally, JournalWriter<K>), Stopped<WorkFault, K>>
     requires few { vec_len finders.old < 2 ^ 32 }
     requires fresh { rejected.old.items ≡ [] }
     requires pla { IsPla (parts_of pla.now) }
@@ -251,15 +211,15 @@ fn write_outputs<K: Sink>(
 {
     right_where_shown();
     let mut writer = writer;
-    let mut decision = Decision::Decided;
+    let mut tally = Tally::new();
     for output in first..end {
         let (next, later) = write_output(
             alloc, out, pla, output, rails, conflicts, finders, rejected, writer,
         )?;
-        decision = decision.and(next);
+        tally = tally.and(next);
         writer = later;
     }
-    Ok((decision, writer))
+    Ok((tally, writer))
 }
 
 /// Answers for the chosen outputs.
@@ -273,7 +233,7 @@ fn write_chosen<K: Sink>(
     finders: &mut Vec<Box<dyn Finder>>,
     rejected: &mut Vec<Rejected>,
     writer: JournalWriter<K>,
-) -> Result<(Decision, JournalWriter<K>), Stopped<WorkFault, K>>
+) -> Result<(Tally, JournalWriter<K>), Stopped<WorkFault, K>>
     requires few { vec_len finders.old < 2 ^ 32 }
     requires fresh { rejected.old.items ≡ [] }
     requires pla { IsPla (parts_of pla.now) }
@@ -375,8 +335,8 @@ pub(crate) fn write_heads<K: Sink>(
     }
 }
 
-/// Writes the report and the journal of the chosen outputs.
-fn write_minima<K: Sink>(
+/// Writes the report and the journal of the chosen outputs: their tally, and how many steps the journal has.
+pub(crate) fn write_minima<K: Sink>(
     alloc: Global,
     out: &mut K,
     pla: &Pla,
@@ -386,16 +346,17 @@ fn write_minima<K: Sink>(
     finders: &mut Vec<Box<dyn Finder>>,
     rejected: &mut Vec<Rejected>,
     journal: K,
-) -> Result<(Decision, K), Stopped<WorkFault, K>>
+) -> Result<(Tally, u64, K), Stopped<WorkFault, K>>
     requires few { vec_len finders.old < 2 ^ 32 }
     requires fresh { rejected.old.items ≡ [] }
     requires pla { IsPla (parts_of pla.now) }
     requires there { IsThere output pla.now.outputs }
     requires conflicts { conflicts ≤ 200000 }
     requires empty { IfSome (K.got journal) (λ bytes. bytes ≡ []) }
-    ensures wrote { IfOk result (λ pair. WroteAnswers (asked rails conflicts (parts_of pla.now)) output pair.0
+    ensures wrote { IfOk result (λ found. WroteAnswers (asked rails conflicts (parts_of pla.now)) output found.0
         (change (K.got out.old) (K.faults out.old) (K.got out.new) (K.faults out.new))
-        (change (K.got journal) (K.faults journal) (K.got pair.1) (K.faults pair.1))) }
+        (change (K.got journal) (K.faults journal) (K.got found.2) (K.faults found.2))) }
+    ensures counted { IfOk result (λ found. IfSome (K.got found.2) (HasSteps found.1)) }
     ensures stopped { IfErr result (λ stopped. StoppedAnswers (asked rails conflicts (parts_of pla.now)) output stopped.fault
         (change (K.got out.old) (K.faults out.old) (K.got out.new) (K.faults out.new))
         (change (K.got journal) (K.faults journal) (K.got stopped.held) (K.faults stopped.held))) }
@@ -403,11 +364,12 @@ fn write_minima<K: Sink>(
     ensures fewer { vec_len finders.new ≤ vec_len finders.old }
 {
     let writer = write_heads(out, pla, rails, journal)?;
-    let (decision, writer) = write_chosen(
+    let (tally, writer) = write_chosen(
         alloc, out, pla, output, rails, conflicts, finders, rejected, writer,
     )?;
+    let steps = writer.steps();
     let journal = write_ends(out, writer)?;
-    Ok((decision, journal))
+    Ok((tally, steps, journal))
 }
 
 /// How the command `synth` ends.
@@ -453,8 +415,8 @@ pub(crate) fn end_of_synth<S: Source, K: Sink>(
     match write_minima(
         alloc, out, &text, output, rails, conflicts, finders, rejected, journal,
     ) {
-        Ok((decision, journal)) => Finished {
-            ending: decision.ending(),
+        Ok((tally, _, journal)) => Finished {
+            ending: tally.ending(),
             journal,
         },
         Err(Stopped { fault, held }) => Finished {

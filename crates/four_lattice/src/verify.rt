@@ -261,7 +261,12 @@ fn ending_of_denial(refusal: VerifyRefusal) -> Ending
 {
     match refusal {
         VerifyRefusal::NoMemory => Ending::NoMemory,
-        _ => Ending::Refused(Refusal::Unconfirmed(Unconfirmed::Denied(refusal))),
+        VerifyRefusal::Inputs { .. }
+        | VerifyRefusal::Output { .. }
+        | VerifyRefusal::Literal { .. }
+        | VerifyRefusal::Wrong { .. } => {
+            Ending::Refused(Refusal::Unconfirmed(Unconfirmed::Denied(refusal)))
+        }
     }
 }
 

@@ -1,11 +1,12 @@
 //! The words of the command line.
-ghost use Rattle.std.specs.Prelude.{◌≡◌, ◌≤◌, ℕ, [], List, true, false, map, string_bytes, codes, Some, None, Err, IfOk, IfSome, IsSomeAnd, option_and_then};
+ghost use Rattle.std.specs.Prelude.{◌≡◌, ◌≤◌, ℕ, [], List, true, false, map, string_bytes, codes, Some, None, Err, IfOk, IfSome, IsSomeAnd, option_and_then, if◌then◌else◌};
 ghost use Rattle.std.specs.Str.{bytes_eq};
+ghost use Rattle.std.specs.Str.Parse.{digits_value};
 ghost use Rattle.std.specs.List.{list_all};
 ghost use Rattle.std.specs.Char.{is_ascii_digit};
 ghost use Rattle.clap.specs.Words.{app_of, kind_of, rule_of};
 ghost use Rattle.clap.specs.declared.error.kind.ErrorKind.TheVariants.{OutOfMemory};
-ghost use Rattle.four_lattice.specs.Words.{Given, given_of, is_number, is_plain, job_from, job_of, number_given, cols_setting, conflicts_setting, output_setting, rails_setting, rows_setting, row_of, size_given, synth_given, map_given, verb_of, IsWithinBounds};
+ghost use Rattle.four_lattice.specs.Words.{Given, given_of, is_number, is_plain, job_from, job_of, number_given, cols_setting, conflicts_setting, output_setting, rails_setting, rows_setting, row_of, size_given, synth_given, map_given, trial_given, numbered_of, asked_by, is_small, verb_of, IsWithinBounds};
 ghost use Rattle.four_lattice.specs.WordsParts.{Shows, bare_app, file_rule, is_option, is_spelled, number_rule, row_app, verb_name};
 
 use clap::error::ErrorKind;
@@ -51,6 +52,12 @@ pub enum Job {
         conflicts: u32,
         output: u32,
     },
+    /// `trial N FILE`: lattices of least area of all outputs of the PLA that a number makes, a journal in a file that shows it, and
+    /// a line that sums them up; at most so many conflicts for each question.
+    Trial {
+        conflicts: u32,
+        number: u32,
+    },
 }
 
 /// A command, as its word names it.
@@ -65,6 +72,7 @@ pub(crate) enum Verb {
     Renew,
     Synth,
     Map,
+    Trial,
 }
 
 /// Why the words give no job.
@@ -114,6 +122,7 @@ pub(crate) fn verb_of(word: &str) -> Option<Verb>
         "renew" => Some(Verb::Renew),
         "synth" => Some(Verb::Synth),
         "map" => Some(Verb::Map),
+        "trial" => Some(Verb::Trial),
         _ => None,
     }
 }
@@ -280,6 +289,10 @@ fn command_of<'a>(alloc: Global, verb: Verb) -> Result<Command<'a>, AllocError>
             .arg(conflicts_option(alloc))?
             .arg(output_option(alloc))?
             .arg(file_argument(alloc)),
+        // The word before the file, which is the number, stands in its place.
+        Verb::Trial => bare_command(alloc, "trial")
+            .arg(conflicts_option(alloc))?
+            .arg(file_argument(alloc)),
     }
 }
 
@@ -346,9 +359,21 @@ fn map_found(conflicts: u32, output: u32) -> Option<Job>
     Some(Job::Map { conflicts, output })
 }
 
-/// The job of a command for which this was found.
-fn job_found(verb: Verb, matches: &ArgMatches<'_>) -> Option<Job>
-    ensures job { (given : Given) → Shows given matches.now → result ≡ job_from verb given }
+/// The job `trial` of so many conflicts and of a number, where there is one and the conflicts are not above what may be asked for.
+fn trial_found(conflicts: u32, number: Option<u32>) -> Option<Job>
+    ensures same { result ≡ trial_given conflicts number }
+    ensures within { IfSome result IsWithinBounds }
+{
+    let number = number?;
+    if conflicts > MOST_CONFLICTS {
+        return None;
+    }
+    Some(Job::Trial { conflicts, number })
+}
+
+/// The job of a command for which this was found, with the number before its file where it has one.
+fn job_found(verb: Verb, number: Option<u32>, matches: &ArgMatches<'_>) -> Option<Job>
+    ensures job { (given : Given) → Shows given matches.now → result ≡ job_from verb number given }
     ensures small { IfSome result IsWithinBounds }
 {
     match verb {
@@ -378,22 +403,96 @@ fn job_found(verb: Verb, matches: &ArgMatches<'_>) -> Option<Job>
             number_found(matches, "conflicts").unwrap_or(USUAL_CONFLICTS),
             number_found(matches, "output").unwrap_or(0),
         ),
+        Verb::Trial => trial_found(
+            number_found(matches, "conflicts").unwrap_or(USUAL_CONFLICTS),
+            number,
+        ),
     }
 }
 
-/// The job that a command and the words after it ask for.
-fn job_asked(alloc: Global, verb: Verb, words: &[String]) -> Result<Job, WordsFault>
-    ensures ok { IfOk result (λ job. option_and_then (job_from verb) (given_of (row_of verb) [] (map string_bytes words.now)) ≡ Some job) }
-    ensures refused { result ≡ Err WordsFault.Refused → option_and_then (job_from verb) (given_of (row_of verb) [] (map string_bytes words.now)) ≡ None }
+/// The job that a command, the number before its file where it has one, and the other words after it ask for.
+fn job_given(
+    alloc: Global,
+    verb: Verb,
+    number: Option<u32>,
+    words: &[String],
+) -> Result<Job, WordsFault>
+    ensures ok { IfOk result (λ job. option_and_then (job_from verb number) (given_of (row_of verb) [] (map string_bytes words.now)) ≡ Some job) }
+    ensures refused { result ≡ Err WordsFault.Refused → option_and_then (job_from verb number) (given_of (row_of verb) [] (map string_bytes words.now)) ≡ None }
     ensures small { IfOk result IsWithinBounds }
 {
     if !are_spelled(words) {
         return Err(WordsFault::Refused);
     }
     let matches = matches_of(alloc, verb, words)?;
-    match job_found(verb, &matches) {
+    match job_found(verb, number, &matches) {
         Some(job) => Ok(job),
         None => Err(WordsFault::Refused),
+    }
+}
+
+/// The number that a word is, where it is one below 4,294,967,296.
+fn small_number(word: &str) -> Option<u32>
+    ensures { result ≡ if is_small word.now then Some (digits_value 10 word.now) else None }
+{
+    if !is_number_word(word) {
+        return None;
+    }
+    match word.parse::<u32>() {
+        Ok(number) => Some(number),
+        Err(_) => None,
+    }
+}
+
+/// The job that a command asks for that has a number before its file.
+fn job_numbered(alloc: Global, verb: Verb, words: &[String]) -> Result<Job, WordsFault>
+    ensures ok { IfOk result (λ job. option_and_then (λ found. job_from verb found.0 found.1) (numbered_of (row_of verb) (map string_bytes words.now)) ≡ Some job) }
+    ensures refused { result ≡ Err WordsFault.Refused → option_and_then (λ found. job_from verb found.0 found.1) (numbered_of (row_of verb) (map string_bytes words.now)) ≡ None }
+    ensures small { IfOk result IsWithinBounds }
+{
+    let [before @ .., file] = words else {
+        return Err(WordsFault::Refused);
+    };
+    let [.., word] = before else {
+        return Err(WordsFault::Refused);
+    };
+    if !is_plain_word(file.as_str()) {
+        return Err(WordsFault::Refused);
+    }
+    match small_number(word.as_str()) {
+        Some(number) => job_given(alloc, verb, Some(number), before),
+        None => Err(WordsFault::Refused),
+    }
+}
+
+/// Whether a command wants a number before its file.
+fn wants_number(verb: Verb) -> bool
+    ensures { result ≡ (row_of verb).wants_number }
+{
+    match verb {
+        Verb::Trial => true,
+        Verb::Pairs
+        | Verb::Dual
+        | Verb::Cnf
+        | Verb::Verify
+        | Verb::Check
+        | Verb::Audit
+        | Verb::Renew
+        | Verb::Synth
+        | Verb::Map => false,
+    }
+}
+
+/// The job that a command and the words after it ask for.
+fn job_asked(alloc: Global, verb: Verb, words: &[String]) -> Result<Job, WordsFault>
+    ensures ok { IfOk result (λ job. option_and_then (λ found. job_from verb found.0 found.1) (asked_by (row_of verb) (map string_bytes words.now)) ≡ Some job) }
+    ensures refused { result ≡ Err WordsFault.Refused → option_and_then (λ found. job_from verb found.0 found.1) (asked_by (row_of verb) (map string_bytes words.now)) ≡ None }
+    ensures small { IfOk result IsWithinBounds }
+{
+    if wants_number(verb) {
+        job_numbered(alloc, verb, words)
+    } else {
+        job_given(alloc, verb, None, words)
     }
 }
 

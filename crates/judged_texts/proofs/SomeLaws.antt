@@ -30,8 +30,9 @@ use Rattle.report_text.specs.Reading.{Gives}
 use Rattle.report_text.specs.Report.{ReportParts}
 use Rattle.report_text.specs.declared.report.ReportRefusal.{ReportRefusal}
 use Rattle.report_text.proofs.AnswerLaws.{some_answer}
+use Rattle.trial_text.specs.Reading.{IsMadeRead, parts_made}
 use Rattle.four_lattice.specs.Check.{IsAccepted, adds_empty, end_line}
-use Rattle.four_lattice.specs.Judge.{Texts, Task, Judgement, Refused, Accepted, Encoding, Realised, Refuted, Confirmed, Renewed, Minima, Placed, Stage, Test, Last, TextRefuses, as_pla, as_cnf, as_array, IsArrayRefused, IsCnfRefused, IsLratRefused, IsReportRefused, IsJournalRefused, LacksOutput, Denies, Unconfirms, LinesRefuse, EncodingComes, VerifyComes, CheckComes, JournalComes, MapComes, JobComes}
+use Rattle.four_lattice.specs.Judge.{Texts, Task, Judgement, Refused, Accepted, Encoding, Realised, Refuted, Confirmed, Renewed, Minima, Placed, Tried, Stage, Test, Last, TextRefuses, as_pla, as_cnf, as_array, IsArrayRefused, IsCnfRefused, IsLratRefused, IsReportRefused, IsJournalRefused, LacksOutput, Denies, Unconfirms, LinesRefuse, EncodingComes, VerifyComes, CheckComes, JournalComes, MapComes, TrialComes, JobComes}
 use Rattle.four_lattice.specs.Lattices.{IsThere}
 use Rattle.four_lattice.specs.Uses.{most_side_bytes}
 use Rattle.four_lattice.specs.Verified.{IsVerified}
@@ -140,6 +141,9 @@ module _ (M : Type 0 → Type 0) (sense : Sense M) where
             (λ j. sense.given (j.0, inr (there, j.1)))
       ])
 
+  some_trial : IsMadeRead → (number budget : ℕ) → Judged M (TrialComes number budget)
+  some_trial read number budget = sense.given (Accepted (Tried number budget (parts_made number)), (parts_made number, read number, refl))
+
   -- the end of a command that tests what it read: refused, or it holds
   tested : (R : Refusal → Type 0) (Holds : Type 0) (task : Task) → Holds ⊎ ((r : Refusal) × R r) → Judged M (Last R Holds task)
   tested R Holds task told = elim told [ inl holds ↦ sense.given (Accepted task, inr (holds, refl)) | inr r ↦ sense.given (Refused r.0, inl (r.0, r.1, refl)) ]
@@ -195,29 +199,33 @@ some_journal task x pla text p s =
     (λ parts read. some_stage Surely denied_twice x.side text refusal.Side IsJournalRefused gives (last parts) s (journal_read text)
     (λ journal given. next (audited parts journal text (read_functions pla parts read) given.0 given.1.0 given.1.1) (tested Surely denied_twice (Unconfirms parts journal) (Audited parts journal) (task parts journal))))
 
-some_job : (job : Job) (x : Texts) (pla text : List ℕ) → x.pla ≡ Some pla → x.side ≡ Some text → Judged Surely (JobComes IsSomeAnd job x)
-some_job (jobs.Pairs output) x pla text p s = some_outputs Surely denied_twice output _ x pla p
-some_job (jobs.Dual output) x pla text p s = some_outputs Surely denied_twice output _ x pla p
-some_job (jobs.Cnf output size) x pla text p s = some_encoding Surely denied_twice output size x pla p
-some_job jobs.Verify x pla text p s = some_verify Surely denied_twice x pla text p s
-some_job jobs.Check x pla text p s = some_check Surely denied_twice x pla text p s
-some_job jobs.Audit x pla text p s = some_journal (λ parts journal. Confirmed journal) x pla text p s
-some_job jobs.Renew x pla text p s = some_journal Renewed x pla text p s
-some_job (jobs.Synth conflicts output rails) x pla text p s = some_outputs Surely denied_twice output (Minima rails conflicts output) x pla p
-some_job (jobs.Map conflicts output) x pla text p s = some_map Surely denied_twice conflicts output x pla p
+-- each made text is read
+module _ (read : IsMadeRead) where
+  some_job : (job : Job) (x : Texts) (pla text : List ℕ) → x.pla ≡ Some pla → x.side ≡ Some text → Judged Surely (JobComes IsSomeAnd job x)
+  some_job (jobs.Pairs output) x pla text p s = some_outputs Surely denied_twice output _ x pla p
+  some_job (jobs.Dual output) x pla text p s = some_outputs Surely denied_twice output _ x pla p
+  some_job (jobs.Cnf output size) x pla text p s = some_encoding Surely denied_twice output size x pla p
+  some_job jobs.Verify x pla text p s = some_verify Surely denied_twice x pla text p s
+  some_job jobs.Check x pla text p s = some_check Surely denied_twice x pla text p s
+  some_job jobs.Audit x pla text p s = some_journal (λ parts journal. Confirmed journal) x pla text p s
+  some_job jobs.Renew x pla text p s = some_journal Renewed x pla text p s
+  some_job (jobs.Synth conflicts output rails) x pla text p s = some_outputs Surely denied_twice output (Minima rails conflicts output) x pla p
+  some_job (jobs.Map conflicts output) x pla text p s = some_map Surely denied_twice conflicts output x pla p
+  some_job (jobs.Trial conflicts number) x pla text p s = some_trial Surely denied_twice read number conflicts
 
-pub some_judgement : IsSomeJudgement
-some_judgement None x pla text p s none = none (Refused refusal.Words) refl
-some_judgement (Some job) x pla text p s none = some_job job x pla text p s (λ j. none j.0 j.1)
+  pub some_judgement : IsSomeJudgement
+  some_judgement None x pla text p s none = none (Refused refusal.Words) refl
+  some_judgement (Some job) x pla text p s none = some_job job x pla text p s (λ j. none j.0 j.1)
 
--- what is decided
-pub plain_judgement : IsPlainJudgement
-plain_judgement (jobs.Pairs output) x pla text plain p s = some_outputs (λ P. P) plainly output _ x pla p
-plain_judgement (jobs.Dual output) x pla text plain p s = some_outputs (λ P. P) plainly output _ x pla p
-plain_judgement (jobs.Cnf output size) x pla text plain p s = some_encoding (λ P. P) plainly output size x pla p
-plain_judgement jobs.Verify x pla text plain p s = some_verify (λ P. P) plainly x pla text p s
-plain_judgement jobs.Check x pla text plain p s = some_check (λ P. P) plainly x pla text p s
-plain_judgement jobs.Audit x pla text plain p s = absurd plain
-plain_judgement jobs.Renew x pla text plain p s = absurd plain
-plain_judgement (jobs.Synth conflicts output rails) x pla text plain p s = some_outputs (λ P. P) plainly output (Minima rails conflicts output) x pla p
-plain_judgement (jobs.Map conflicts output) x pla text plain p s = some_map (λ P. P) plainly conflicts output x pla p
+  -- what is decided
+  pub plain_judgement : IsPlainJudgement
+  plain_judgement (jobs.Pairs output) x pla text plain p s = some_outputs (λ P. P) plainly output _ x pla p
+  plain_judgement (jobs.Dual output) x pla text plain p s = some_outputs (λ P. P) plainly output _ x pla p
+  plain_judgement (jobs.Cnf output size) x pla text plain p s = some_encoding (λ P. P) plainly output size x pla p
+  plain_judgement jobs.Verify x pla text plain p s = some_verify (λ P. P) plainly x pla text p s
+  plain_judgement jobs.Check x pla text plain p s = some_check (λ P. P) plainly x pla text p s
+  plain_judgement jobs.Audit x pla text plain p s = absurd plain
+  plain_judgement jobs.Renew x pla text plain p s = absurd plain
+  plain_judgement (jobs.Synth conflicts output rails) x pla text plain p s = some_outputs (λ P. P) plainly output (Minima rails conflicts output) x pla p
+  plain_judgement (jobs.Map conflicts output) x pla text plain p s = some_map (λ P. P) plainly conflicts output x pla p
+  plain_judgement (jobs.Trial conflicts number) x pla text plain p s = some_trial (λ P. P) plainly read number conflicts

@@ -22,6 +22,7 @@ IsPlain job.Audit = ⊥
 IsPlain job.Renew = ⊥
 IsPlain (job.Synth conflicts output rails) = ⊤
 IsPlain (job.Map conflicts output) = ⊤
+IsPlain (job.Trial conflicts number) = ⊤
 
 -- Of such a job there is a judgement, with nothing denied.
 abbrev pub IsPlainJudgement : Type 0

@@ -1,6 +1,5 @@
 use Rattle.std.proofs.Common.{rules, refl, subst, inl, inr, arith}
 use Rattle.pla_reader.specs.Parts.{parts_of}
-use Rattle.journal_text.specs.Parts.{parts_of_journal}
 use Rattle.wire_io.specs.Told.{Gains, GainsFront}
 use Rattle.four_lattice.specs.Judge.{Confirmed, Unconfirms, IsJournalRefused}
 use Rattle.four_lattice.specs.declared.ending.Refusal.TheVariants.{Side}
@@ -8,30 +7,27 @@ use Rattle.four_lattice.proofs.FinishLaws.{side_stops, test_stops, quiet_done, q
 use Rattle.four_lattice.proofs.CommandLaws.{confirmed_by, audit_level}
 use Rattle.four_lattice.proofs.audit.end_of_audit.Goals as goal
 
-pub returns-in-Err-input_journal-clause-finishes : goal.returns-in-Err-input_journal-clause-finishes
-returns-in-Err-input_journal-clause-finishes g c = λ journal. side_stops _ _ _ _ (refl, refl)
-    (record { pla = c.in-Ok.ensures.later; side = c.in-Err-input_journal.ensures.later; out = omega arith; journal = omega arith }) IsJournalRefused refl c.in-Ok.ensures.spent c.in-Ok.ensures.taken
-    (λ r told. inr (parts_of c.in-Ok.text, c.in-Ok.ensures.reads, inl (Side r, (r, told, refl), refl))) c.in-Err-input_journal.ending c.in-Err-input_journal.ensures.ends
+pub returns-in-Err-confirm_side-clause-finishes : goal.returns-in-Err-confirm_side-clause-finishes
+returns-in-Err-confirm_side-clause-finishes g c = λ journal. elim c.in-Err-confirm_side.ensures.ends [
+  | inl h ↦
+      side_stops _ _ _ _ (refl, refl) (record { pla = c.in-Ok.ensures.later; side = c.in-Err-confirm_side.ensures.later; out = omega arith; journal = omega arith }) IsJournalRefused refl c.in-Ok.ensures.spent c.in-Ok.ensures.taken
+      (λ r told. inr (parts_of c.in-Ok.text, c.in-Ok.ensures.reads, inl (Side r, (r, told, refl), refl))) c.in-Err-confirm_side.ending h
+  | inr h ↦
+      test_stops _ _ _ _ (refl, refl) (record { pla = c.in-Ok.ensures.later; side = c.in-Err-confirm_side.ensures.later; out = omega arith; journal = omega arith }) (Unconfirms (parts_of c.in-Ok.text) h.journal)
+      (spent_both c.in-Ok.ensures.spent h.spent) c.in-Ok.ensures.taken h.taken (audit_level (parts_of c.in-Ok.text) h.journal)
+      (λ r k. inr (parts_of c.in-Ok.text, c.in-Ok.ensures.reads, inr (h.journal, h.reads, inl (r, k, refl)))) c.in-Err-confirm_side.ending h.stops
+]
 
-pub returns-in-Err-input_journal-clause-side_last : goal.returns-in-Err-input_journal-clause-side_last
-returns-in-Err-input_journal-clause-side_last g c = inr (parts_of c.in-Ok.text, c.in-Ok.ensures.reads)
-
-pub returns-in-Err-confirm-clause-finishes : goal.returns-in-Err-confirm-clause-finishes
-returns-in-Err-confirm-clause-finishes g c =
-    let said = parts_of_journal c.in-Ok-input_journal.journal in
-    λ journal. test_stops _ _ _ _ (refl, refl) (record { pla = c.in-Ok.ensures.later; side = c.in-Ok-input_journal.ensures.later; out = omega arith; journal = omega arith }) (Unconfirms (parts_of c.in-Ok.text) said)
-    (spent_both c.in-Ok.ensures.spent c.in-Ok-input_journal.ensures.spent) c.in-Ok.ensures.taken c.in-Ok-input_journal.ensures.taken (audit_level (parts_of c.in-Ok.text) said)
-    (λ r h. inr (parts_of c.in-Ok.text, c.in-Ok.ensures.reads, inr (said, c.in-Ok-input_journal.ensures.reads, inl (r, h, refl)))) c.in-Err-confirm.ending c.in-Err-confirm.ensures.ends
-
-pub returns-in-Err-confirm-clause-side_last : goal.returns-in-Err-confirm-clause-side_last
-returns-in-Err-confirm-clause-side_last g c = inr (parts_of c.in-Ok.text, c.in-Ok.ensures.reads)
+pub returns-in-Err-confirm_side-clause-side_last : goal.returns-in-Err-confirm_side-clause-side_last
+returns-in-Err-confirm_side-clause-side_last g c = inr (parts_of c.in-Ok.text, c.in-Ok.ensures.reads)
 
 pub returns-in-Ok-write_confirmed-clause-finishes : goal.returns-in-Ok-write_confirmed-clause-finishes
 returns-in-Ok-write_confirmed-clause-finishes g c =
-    let said = parts_of_journal c.in-Ok-input_journal.journal in
-    let text = confirmed_by c.in-Ok-confirm.many said c.in-Ok-confirm.ensures.many in
-    λ journal. quiet_done _ _ _ _ _ _ journal (Confirmed said) _ (inr (parts_of c.in-Ok.text, c.in-Ok.ensures.reads, inr (said, c.in-Ok-input_journal.ensures.reads, inr (c.in-Ok-confirm.ensures.audited, refl))))
-    (spent_both c.in-Ok.ensures.spent c.in-Ok-input_journal.ensures.spent) (record { pla = c.in-Ok.ensures.later; side = c.in-Ok-input_journal.ensures.later; out = c.in-Ok-write_confirmed.ensures.cause.later; journal = omega arith }) (λ w s. s)
+    let said = c.in-Ok-confirm_side.ensures.confirmed.0 in
+    let is = c.in-Ok-confirm_side.ensures.confirmed.1 in
+    let text = confirmed_by c.in-Ok-confirm_side.many said is.all in
+    λ journal. quiet_done _ _ _ _ _ _ journal (Confirmed said) _ (inr (parts_of c.in-Ok.text, c.in-Ok.ensures.reads, inr (said, is.reads, inr (is.audited, refl))))
+    (spent_both c.in-Ok.ensures.spent c.in-Ok-confirm_side.ensures.spent) (record { pla = c.in-Ok.ensures.later; side = c.in-Ok-confirm_side.ensures.later; out = c.in-Ok-write_confirmed.ensures.cause.later; journal = omega arith }) (λ w s. s)
     (subst (λ t. Gains (g.K.Sink.got c.args.out.now) (g.K.Sink.got c.write_confirmed.new.out) t) text c.in-Ok-write_confirmed.ensures.ok)
 
 pub returns-in-Ok-write_confirmed-clause-side_last : goal.returns-in-Ok-write_confirmed-clause-side_last
@@ -39,14 +35,17 @@ returns-in-Ok-write_confirmed-clause-side_last g c = inr (parts_of c.in-Ok.text,
 
 pub returns-in-Ok-write_confirmed-clause-out_last : goal.returns-in-Ok-write_confirmed-clause-out_last
 returns-in-Ok-write_confirmed-clause-out_last g c =
-    inr (Confirmed (parts_of_journal c.in-Ok-input_journal.journal), inr (parts_of c.in-Ok.text, c.in-Ok.ensures.reads, inr (parts_of_journal c.in-Ok-input_journal.journal, c.in-Ok-input_journal.ensures.reads, inr (c.in-Ok-confirm.ensures.audited, refl))))
+    let said = c.in-Ok-confirm_side.ensures.confirmed.0 in
+    let is = c.in-Ok-confirm_side.ensures.confirmed.1 in
+    inr (Confirmed said, inr (parts_of c.in-Ok.text, c.in-Ok.ensures.reads, inr (said, is.reads, inr (is.audited, refl))))
 
 pub returns-clause-finishes : goal.returns-clause-finishes
 returns-clause-finishes g c =
-    let said = parts_of_journal c.in-Ok-input_journal.journal in
-    let text = confirmed_by c.in-Ok-confirm.many said c.in-Ok-confirm.ensures.many in
-    λ journal. quiet_fault _ _ _ _ _ _ journal (Confirmed said) _ (inr (parts_of c.in-Ok.text, c.in-Ok.ensures.reads, inr (said, c.in-Ok-input_journal.ensures.reads, inr (c.in-Ok-confirm.ensures.audited, refl))))
-    (spent_both c.in-Ok.ensures.spent c.in-Ok-input_journal.ensures.spent) (record { pla = c.in-Ok.ensures.later; side = c.in-Ok-input_journal.ensures.later; out = c.write_confirmed.ensures.cause.later; journal = omega arith }) (λ front s. s)
+    let said = c.in-Ok-confirm_side.ensures.confirmed.0 in
+    let is = c.in-Ok-confirm_side.ensures.confirmed.1 in
+    let text = confirmed_by c.in-Ok-confirm_side.many said is.all in
+    λ journal. quiet_fault _ _ _ _ _ _ journal (Confirmed said) _ (inr (parts_of c.in-Ok.text, c.in-Ok.ensures.reads, inr (said, is.reads, inr (is.audited, refl))))
+    (spent_both c.in-Ok.ensures.spent c.in-Ok-confirm_side.ensures.spent) (record { pla = c.in-Ok.ensures.later; side = c.in-Ok-confirm_side.ensures.later; out = c.write_confirmed.ensures.cause.later; journal = omega arith }) (λ front s. s)
     (search rules) (subst (λ t. GainsFront (g.K.Sink.got c.args.out.now) (g.K.Sink.got c.write_confirmed.new.out) t) text c.write_confirmed.ensures.front)
 
 pub returns-clause-side_last : goal.returns-clause-side_last
@@ -54,4 +53,6 @@ returns-clause-side_last g c = inr (parts_of c.in-Ok.text, c.in-Ok.ensures.reads
 
 pub returns-clause-out_last : goal.returns-clause-out_last
 returns-clause-out_last g c =
-    inr (Confirmed (parts_of_journal c.in-Ok-input_journal.journal), inr (parts_of c.in-Ok.text, c.in-Ok.ensures.reads, inr (parts_of_journal c.in-Ok-input_journal.journal, c.in-Ok-input_journal.ensures.reads, inr (c.in-Ok-confirm.ensures.audited, refl))))
+    let said = c.in-Ok-confirm_side.ensures.confirmed.0 in
+    let is = c.in-Ok-confirm_side.ensures.confirmed.1 in
+    inr (Confirmed said, inr (parts_of c.in-Ok.text, c.in-Ok.ensures.reads, inr (said, is.reads, inr (is.audited, refl))))

@@ -4,7 +4,8 @@ use Rattle.defect_array.specs.Reading.{Reads as ReadsArray, Refused as IsNoArray
 use Rattle.pla_reader.specs.Parts.{parts_of}
 use Rattle.four_lattice.specs.Judge.{Placed, as_array}
 use Rattle.four_lattice.specs.Lattices.{IsThere}
-use Rattle.four_lattice.specs.Minima.{asked_on}
+use Rattle.four_lattice.specs.Minima.{asked_on, AreTallied}
+use Rattle.four_lattice.specs.Synth.{OnArray, BeginAnswers}
 use Rattle.four_lattice.specs.declared.ending.InputRefusal.TheVariants.{NoSuchOutput}
 use Rattle.four_lattice.specs.declared.ending.Refusal.TheVariants.{Input}
 use Rattle.four_lattice.proofs.FinishLaws.{refused_output, spent_alone, LosesUpTo-none}
@@ -33,9 +34,10 @@ pub returns-in-Ok-write_placed-clause-finishes : goal.returns-in-Ok-write_placed
 returns-in-Ok-write_placed-clause-finishes g c =
     let there : IsThere (Some c.args.output) c.in-Ok.text.pla.outputs = search rules in
     let read = where_read _ c.in-Ok.text.bytes.items (λ b. ReadsArray (drop c.in-Ok.text.pla.rest b) c.in-Ok-input_array.array) c.in-Ok.ensures.told c.in-Ok-input_array.ensures.reads in
-    rw c.ending.ensures (answers_done _ _ _ _ _ _ _ (asked_on c.in-Ok-input_array.array c.args.conflicts (parts_of c.in-Ok.text.pla)) (Some c.args.output)
-    (Placed c.args.conflicts c.args.output c.in-Ok-input_array.array (parts_of c.in-Ok.text.pla)) (inr (parts_of c.in-Ok.text.pla, c.in-Ok.ensures.reads, inr (there, inr (c.in-Ok-input_array.array, read, refl)))) (λ w h. h) (λ o j h. h) refl
-    (spent_alone c.in-Ok.ensures.spent) c.in-Ok.ensures.later (omega arith) c.in-Ok-write_placed.decision c.in-Ok-write_placed.ensures.wrote)
+    rw c.ending.ensures (answers_done _ _ _ _ _ _ _ (AreTallied (asked_on c.in-Ok-input_array.array c.args.conflicts (parts_of c.in-Ok.text.pla)) (Some c.args.output))
+    (BeginAnswers (OnArray c.in-Ok-input_array.array) 1048575 c.args.conflicts (Some c.args.output) (parts_of c.in-Ok.text.pla))
+    (Placed c.args.conflicts c.args.output c.in-Ok-input_array.array (parts_of c.in-Ok.text.pla)) (inr (parts_of c.in-Ok.text.pla, c.in-Ok.ensures.reads, inr (there, inr (c.in-Ok-input_array.array, read, refl)))) (λ t o j h. h.answers) (λ o j h. h) refl
+    (spent_alone c.in-Ok.ensures.spent) c.in-Ok.ensures.later (omega arith) c.in-Ok-write_placed.tally c.in-Ok-write_placed.ensures.wrote)
 
 pub returns-in-Ok-write_placed-clause-out_last : goal.returns-in-Ok-write_placed-clause-out_last
 returns-in-Ok-write_placed-clause-out_last g c =
@@ -53,8 +55,9 @@ pub returns-clause-finishes : goal.returns-clause-finishes
 returns-clause-finishes g c =
     let there : IsThere (Some c.args.output) c.in-Ok.text.pla.outputs = search rules in
     let read = where_read _ c.in-Ok.text.bytes.items (λ b. ReadsArray (drop c.in-Ok.text.pla.rest b) c.in-Ok-input_array.array) c.in-Ok.ensures.told c.in-Ok-input_array.ensures.reads in
-    rw c.ending-in-Err-write_placed.ensures (answers_stopped _ _ _ _ _ _ _ (asked_on c.in-Ok-input_array.array c.args.conflicts (parts_of c.in-Ok.text.pla)) (Some c.args.output)
-    (Placed c.args.conflicts c.args.output c.in-Ok-input_array.array (parts_of c.in-Ok.text.pla)) (inr (parts_of c.in-Ok.text.pla, c.in-Ok.ensures.reads, inr (there, inr (c.in-Ok-input_array.array, read, refl)))) (λ w h. h) (λ o j h. h) refl
+    rw c.ending-in-Err-write_placed.ensures (answers_stopped _ _ _ _ _ _ _ (AreTallied (asked_on c.in-Ok-input_array.array c.args.conflicts (parts_of c.in-Ok.text.pla)) (Some c.args.output))
+    (BeginAnswers (OnArray c.in-Ok-input_array.array) 1048575 c.args.conflicts (Some c.args.output) (parts_of c.in-Ok.text.pla))
+    (Placed c.args.conflicts c.args.output c.in-Ok-input_array.array (parts_of c.in-Ok.text.pla)) (inr (parts_of c.in-Ok.text.pla, c.in-Ok.ensures.reads, inr (there, inr (c.in-Ok-input_array.array, read, refl)))) (λ t o j h. h.answers) (λ o j h. h) refl
     (spent_alone c.in-Ok.ensures.spent) c.in-Ok.ensures.later (omega arith) c.in-Ok.ensures.taken (LosesUpTo-none _ _) c.in-Err-write_placed.field-0.fault c.in-Err-write_placed.ensures.stopped)
 
 pub returns-clause-out_last : goal.returns-clause-out_last

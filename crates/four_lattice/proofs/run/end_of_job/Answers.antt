@@ -29,3 +29,10 @@ returns-in-Synth-clause-finders_used g c = rw c.in-Synth.is (λ done uses. c.end
 
 pub returns-in-Map-clause-finishes : goal.returns-in-Map-clause-finishes
 returns-in-Map-clause-finishes g c = rw c.in-Map.is c.end_of_map.ensures.finishes
+
+pub returns-in-Trial-clause-finishes : goal.returns-in-Trial-clause-finishes
+returns-in-Trial-clause-finishes g c =
+    rw c.in-Trial.is (c.end_of_trial.ensures.finishes (record { told = g.S.Source.left c.args.pla.now; faults = g.S.Source.faults c.args.pla.now }) (record { told = g.S.Source.left c.args.side.now; faults = g.S.Source.faults c.args.side.now }))
+
+pub returns-in-Trial-clause-finders_used : goal.returns-in-Trial-clause-finders_used
+returns-in-Trial-clause-finders_used g c = rw c.in-Trial.is (λ done uses. c.end_of_trial.ensures.used done)

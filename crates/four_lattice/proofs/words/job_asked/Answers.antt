@@ -1,15 +1,20 @@
-use Rattle.std.proofs.Common.{map, string_bytes, sym, ap, []}
-use Rattle.std.specs.Prelude.{option_and_then}
-use Rattle.four_lattice.proofs.WordsLaws.{row_is_table, shown-then, unspelled}
+use Rattle.std.proofs.Common.{sym, map, string_bytes, None, Some}
 use Rattle.four_lattice.specs.Words.{row_of, job_from}
+use Rattle.four_lattice.proofs.WordsLaws.{found-plain, found-numbered, if_ok}
 use Rattle.four_lattice.proofs.words.job_asked.Goals as goal
 
-pub returns-then-not-are_spelled-clause-refused : goal.returns-then-not-are_spelled-clause-refused
-returns-then-not-are_spelled-clause-refused c refused =
-    ap (option_and_then (job_from c.args.verb)) (unspelled (row_of c.args.verb) [] (map string_bytes c.args.words.now) (row_is_table c.args.verb) (sym c.if-not-are_spelled.ensures))
+pub returns-then-wants_number-clause-ok : goal.returns-then-wants_number-clause-ok
+returns-then-wants_number-clause-ok c =
+    if_ok c.job_numbered.result _ _ (λ job is. found-numbered (row_of c.args.verb) (map string_bytes c.args.words.now) (job_from c.args.verb) (Some job) (sym c.if-wants_number.ensures) is) c.job_numbered.ensures.ok
 
-pub returns-in-Some-clause-ok : goal.returns-in-Some-clause-ok
-returns-in-Some-clause-ok c = shown-then _ _ (job_from c.args.verb) _ c.in_ok-matches.ensures.ok c.in-Some.ensures.job
+pub returns-then-wants_number-clause-refused : goal.returns-then-wants_number-clause-refused
+returns-then-wants_number-clause-refused c refused =
+    found-numbered (row_of c.args.verb) (map string_bytes c.args.words.now) (job_from c.args.verb) None (sym c.if-wants_number.ensures) (c.job_numbered.ensures.refused refused)
 
-pub returns-clause-refused : goal.returns-clause-refused
-returns-clause-refused c refused = shown-then _ _ (job_from c.args.verb) _ c.in_ok-matches.ensures.ok c.in-None.ensures.job
+pub returns-else-wants_number-clause-ok : goal.returns-else-wants_number-clause-ok
+returns-else-wants_number-clause-ok c =
+    if_ok c.job_given.result _ _ (λ job is. found-plain (row_of c.args.verb) (map string_bytes c.args.words.now) (job_from c.args.verb) (Some job) (sym c.if-wants_number.ensures) is) c.job_given.ensures.ok
+
+pub returns-else-wants_number-clause-refused : goal.returns-else-wants_number-clause-refused
+returns-else-wants_number-clause-refused c refused =
+    found-plain (row_of c.args.verb) (map string_bytes c.args.words.now) (job_from c.args.verb) None (sym c.if-wants_number.ensures) (c.job_given.ensures.refused refused)

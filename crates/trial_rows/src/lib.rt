@@ -1,0 +1,5 @@
+//! Runs of the command `trial`.
+#![tactic(auto)]
+
+#[cfg(test)]
+mod trial;
