@@ -10,6 +10,12 @@ for name in parity3 full_adder majority5 segments adder2 compare2 square4; do
     "$program" audit "$folder/$name.journal" <"$text"
 done
 
+# the default budget, where questions are spent
+for name in adder3 majority7; do
+    text=$folder/circuits/$name.pla
+    echo "$name, 20,000 conflicts: synth $(least_of 1 "$text" synth "$folder/$name.journal"); audit $(least_of 1 "$text" audit "$folder/$name.journal")"
+done
+
 # a journal nearly as long as one may be: the sections of the majority of five, again and again
 python3 "$here/long_journal.py" "$folder/majority5.journal" "$folder/long.journal" 536870912
 echo "long journal of $(wc -c <"$folder/long.journal") bytes; audit $(least_of 1 "$folder/circuits/majority5.pla" audit "$folder/long.journal")"
