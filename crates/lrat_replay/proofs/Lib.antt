@@ -15,4 +15,5 @@ pub mod StepLaws
 pub mod TallyLaws
 pub mod LearnedLaws
 pub mod SubsetLaws
+pub mod ListsLaws
 pub mod BudgetLaws

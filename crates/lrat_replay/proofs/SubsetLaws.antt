@@ -1,10 +1,8 @@
 -- Clauses whose literals are all known.
-use Rattle.std.proofs.Common.{◌≡◌, ◌↔◌, ℕ, ◌+◌, ◌==◌, ◌<◌, Bool, true, false, not, ◌||◌, List, [], ◌∷◌, ◌++◌, take, length, get_or, refl, sym, ap, ◌∙◌, subst, arith, inl, inr, ◌⊎◌, Some}
-use Rattle.std.specs.Prelude.{slice_get}
+use Rattle.std.proofs.Common.{◌≡◌, ◌↔◌, ℕ, ◌+◌, ◌==◌, ◌<◌, Bool, true, false, not, ◌||◌, List, [], ◌∷◌, ◌++◌, take, length, get_or, refl, sym, ap, ◌∙◌, subst, arith, inl, inr}
 use Rattle.std.specs.List.{Contains}
 use Rattle.std.proofs.lemmas.Bool.{eqb-true, cases_Bool, or_cases, both_ways, true≢false}
-use Rattle.std.proofs.lemmas.Option.{slice_get_within, get_or_from_slice_get, slice_get-get_or}
-use Rattle.std.proofs.lemmas.List.Elements.{Contains-append_right, Contains-append_left, Contains-append_cases}
+use Rattle.std.proofs.lemmas.List.Elements.{Contains-append_right}
 use Rattle.clause_core.specs.Literal.{Literal, same, has}
 use Rattle.clause_core.proofs.Literals.{same-true}
 use Rattle.lrat_replay.specs.Status.{Known, with_literal}
@@ -19,37 +17,6 @@ pub marked-more : (c : List Literal) (x l : Literal) → with_literal (has c) x 
 marked-more c x l = shape (same x l) (has c l) ∙ sym (has-push c x l) where
   shape : (a b : Bool) → (a || b) ≡ (b || a)
   shape a b = grind arith
-
--- the clause at a place
-pub contains_at : {X : Type 0} (xs : List X) (i : ℕ) (x : X) → slice_get xs i ≡ Some x → Contains xs x
-contains_at xs i x e = (i, slice_get_within xs i x e, get_or_from_slice_get xs i x x e)
-
--- none of the first clauses
-abbrev pub NoneBefore : Known → List (List Literal) → ℕ → Type 0
-NoneBefore known clauses n = (k : ℕ) → k < n → (clause : List Literal) → slice_get clauses k ≡ Some clause → AreKnown known clause → ⊥
-
-pub none_more : (known : Known) (clauses : List (List Literal)) (n : ℕ) (clause : List Literal) → slice_get clauses n ≡ Some clause → (AreKnown known clause → ⊥) → NoneBefore known clauses n → NoneBefore known clauses (n + 1)
-none_more known clauses n clause e not_here before k h c f = elim (last k n h) [
-  | inl below ↦ before k below c f
-  | inr here ↦ let g : Some clause ≡ Some c = sym e ∙ ap (slice_get clauses) (sym here) ∙ f in let s : clause ≡ c = cc in subst (λ w. AreKnown known w → ⊥) s not_here
-] where
-  last : (k n : ℕ) → k < n + 1 → (k < n) ⊎ (k ≡ n)
-  last k n h = grind arith
-
-pub none_known : (known : Known) (clauses : List (List Literal)) → NoneBefore known clauses (length clauses) → SomeAreKnown known clauses → ⊥
-none_known known clauses none s = let k = s.among.0 in none k s.among.1 s.clause (slice_get-get_or clauses k s.clause s.among.1 ∙ ap Some s.among.2) s.known_all
-
-pub known_left : (known : Known) (a b : List (List Literal)) (x : Bool) → x ≡ true → (x ≡ true) ↔ SomeAreKnown known a → (x ≡ true) ↔ SomeAreKnown known (a ++ b)
-known_left known a b x e p = (λ h. let s = p.0 h in record { clause = s.clause; among = Contains-append_left a b s.clause s.among; known_all = s.known_all }, λ s. e)
-
-pub known_right : (known : Known) (a b : List (List Literal)) (x y : Bool) → x ≡ false → (x ≡ true) ↔ SomeAreKnown known a → (y ≡ true) ↔ SomeAreKnown known b → (y ≡ true) ↔ SomeAreKnown known (a ++ b)
-known_right known a b x y e p q = (
-  λ h. let s = q.0 h in record { clause = s.clause; among = Contains-append_right a b s.clause s.among; known_all = s.known_all },
-  λ s. elim (Contains-append_cases a b s.clause s.among) [
-    | inl m ↦ absurd (both_ways x e (p.1 (record { clause = s.clause; among = m; known_all = s.known_all })))
-    | inr m ↦ q.1 (record { clause = s.clause; among = m; known_all = s.known_all })
-  ],
-)
 
 -- clauses with their identifiers
 record At (entries : List Numbered) (clause : List Literal) : Type 0 where

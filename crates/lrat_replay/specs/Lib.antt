@@ -14,4 +14,5 @@ pub mod Ledger
 pub mod Learned
 pub mod Together
 pub mod Subset
+pub mod Lists
 pub mod Budget

@@ -10,6 +10,7 @@ pub mod fault;
 mod hints;
 pub mod ledger;
 pub mod line;
+mod lists;
 pub mod marks;
 mod place;
 pub mod read;

@@ -7,11 +7,11 @@ use clause_core::lit::Lit;
 use std::alloc::Global;
 use wire_io::fault::NoMemory;
 
-/// A set of literals: those whose stamp is the present one.
+/// A set of literals: those whose stamp is the present one. A stamp is a byte, so that sets stay near the processor.
 #[derive(Drop)]
 pub struct Marks {
-    stamps: Vec<u32>,
-    present: u32,
+    stamps: Vec<u8>,
+    present: u8,
     ghost begun: { 0 < present },
     ghost past: { All (λ stamp. stamp ≤ present) stamps.items },
 }
@@ -56,7 +56,7 @@ impl Marks {
         ensures empty { known_of self.new ≡ nothing }
         ensures room { room self.new ≡ room self.old }
     {
-        if self.present == u32::MAX {
+        if self.present == u8::MAX {
             self.stamps.fill(0);
             self.present = 1;
         } else {

@@ -168,7 +168,7 @@ impl Replay {
         ensures kept { self.new ≡ self.old }
     {
         mark_all(&mut self.marks, clause);
-        !clause.is_empty() && !self.store.has_within(&self.marks)
+        !clause.is_empty() && !self.store.has_within(&self.marks, clause)
     }
 
     /// Deletes clauses by their identifiers, one after the other. After a refusal the replay is as it was.

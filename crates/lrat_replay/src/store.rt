@@ -1,6 +1,7 @@
 //! The formula and the steps, with what was deleted.
-ghost use Rattle.std.specs.Prelude.{◌≡◌, ℕ, ◌+◌, ◌<◌, ◌≤◌, ◌^◌, [], length, OnOk, OnErr, IfOk, IfSome, MatchOption, None, Some, slice_get, slice_index, slice_index_or, ◌++◌, ◌-◌, All, replicate, true, false, ◌∷◌, IfErr, ℤ, IsTrue, ◌↔◌, ◌*◌};
+ghost use Rattle.std.specs.Prelude.{◌≡◌, ℕ, ◌+◌, ◌<◌, ◌≤◌, ◌^◌, [], length, OnOk, OnErr, IfOk, IfSome, MatchOption, None, Some, slice_get, slice_index, ◌-◌, replicate, true, false, ◌∷◌, IfErr, ℤ, IsTrue, ◌↔◌, ◌*◌};
 ghost use Rattle.std.specs.FinSet as set;
+ghost use Rattle.clause_core.specs.Literal.{has};
 ghost use Rattle.clause_core.specs.Formula.{IsOver};
 ghost use Rattle.lrat_replay.specs.Book.{Book, all_of, start, last_id, live, is_live, without, after_addition, deletion_fault, after_deletion};
 ghost use Rattle.lrat_replay.specs.Store.{counted, clauses_of};
@@ -8,9 +9,10 @@ ghost use Rattle.lrat_replay.specs.Marks.{known_of, room};
 ghost use Rattle.lrat_replay.specs.Subset.{SomeAreKnown};
 
 use crate::fault::StepFault;
+use crate::lists::Lists;
 use crate::marks::Marks;
-use crate::place::place_of;
-use crate::subset::{some_of_formula, some_of_steps};
+use crate::place::{clause_at, place_of};
+use crate::subset::some_within;
 use clause_core::clauses::Clauses;
 use clause_core::formula::Formula;
 use clause_core::lit::Lit;
@@ -46,21 +48,6 @@ fn last_of(ids: &[u32]) -> u32
     }
 }
 
-/// The clause at a place among those of a formula and the steps after them.
-fn clause_at<'a>(formula: &'a Formula, steps: &'a Clauses, place: usize) -> &'a [Lit]
-    requires inside { place < length formula.now.clauses + length steps.now }
-    requires over { All (IsOver formula.now.vars) steps.now }
-    ensures value { slice_index_or (formula.now.clauses ++ steps.now) place result.now ≡ result.now }
-    ensures over { IsOver formula.now.vars result.now }
-{
-    let count = formula.count() as usize;
-    if place < count {
-        formula.clause(place as u32)
-    } else {
-        steps.clause(place - count)
-    }
-}
-
 /// A formula with steps, each clause by its identifier.
 #[derive(Drop)]
 pub struct Store {
@@ -68,11 +55,13 @@ pub struct Store {
     steps: Clauses,
     ids: Vec<u32>,
     deleted: Vec<bool>,
+    lists: Lists,
 }
 
 impl Model for Store {
     ghost use Rattle.lrat_replay.specs.Book.{Book};
-    ghost use Rattle.lrat_replay.specs.Store.{coded_book, book_of, IsStore};
+    ghost use Rattle.lrat_replay.specs.Store.{coded_book, book_of};
+    ghost use Rattle.lrat_replay.specs.Lists.{IsListedStore};
 
     ghost Value = { Book };
 
@@ -80,7 +69,7 @@ impl Model for Store {
 
     ghost view = { λ store. book_of store.formula store.steps store.ids.items store.deleted.items };
 
-    ghost invariant = { λ store. IsStore store.formula store.steps store.ids.items store.deleted.items };
+    ghost invariant = { λ store. IsListedStore store.formula store.steps store.ids.items store.deleted.items store.lists.first.items store.lists.next.items };
 }
 
 impl Store {
@@ -91,11 +80,13 @@ impl Store {
         let count = formula.count();
         let ids = count_up(alloc, count)?;
         let deleted = no_flags(alloc, count as usize)?;
+        let lists = Lists::of(alloc, &formula)?;
         Ok(Store {
             formula,
             steps: Clauses::new(alloc),
             ids,
             deleted,
+            lists,
         })
     }
 
@@ -132,13 +123,14 @@ impl Store {
         Some(clause_at(&self.formula, &self.steps, place))
     }
 
-    /// Whether some clause, a deleted one too, has only marked literals.
-    pub fn has_within(&self, marks: &Marks) -> bool
-        requires { 2 * self.now.formula.vars + 2 ≤ room marks.now }
+    /// Whether some clause, a deleted one too, has only literals of this one, which are the marked ones.
+    pub fn has_within(&self, marks: &Marks, clause: &[Lit]) -> bool
+        requires room { 2 * self.now.formula.vars + 2 ≤ room marks.now }
+        requires marked { known_of marks.now ≡ has clause.now }
+        requires over { IsOver self.now.formula.vars clause.now }
         ensures { IsTrue result ↔ SomeAreKnown (known_of marks.now) (clauses_of (all_of self.now)) }
     {
-        some_of_formula(marks, &self.formula)
-            || some_of_steps(marks, self.formula.vars(), &self.steps)
+        some_within(marks, &self.lists, &self.formula, &self.steps, clause)
     }
 
     /// Adds a clause under an identifier above the largest one so far.
@@ -150,9 +142,11 @@ impl Store {
     {
         self.ids.reserve(1)?;
         self.deleted.reserve(1)?;
+        self.lists.reserve()?;
         self.steps.push(clause)?;
         self.ids.push(id).unwrap();
         self.deleted.push(false).unwrap();
+        self.lists.push(clause).unwrap();
         Ok(())
     }
 

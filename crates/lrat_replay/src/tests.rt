@@ -98,6 +98,37 @@ fn deleted_clauses_are_no_hints_and_still_old(rt: HostRuntime) -> Result<(), Fai
 }
 
 #[test]
+fn a_subset_is_found_whatever_its_list(rt: HostRuntime) -> Result<(), Fail> {
+    let alloc = rt.alloc();
+    let formula = read_cnf(alloc, b"p cnf 4 4\n3 1 0\n-2 3 0\n3 2 -1 0\n-2 4 0\n")?;
+    let mut replay = Replay::new(alloc, formula).ok().ok_or("memory")?;
+    let one = Lit::new(1, false);
+    let two = Lit::new(2, false);
+    let three = Lit::new(3, false);
+    let four = Lit::new(4, false);
+    assert!(rt; is_new(&mut replay, &[one, three, four]) == Some(false));
+    assert!(rt; is_new(&mut replay, &[four, two.flip()]) == Some(false));
+    assert!(rt; is_new(&mut replay, &[three, two.flip()]) == Some(false));
+    assert!(rt; is_new(&mut replay, &[three, three]) == Some(true));
+    assert!(rt; is_new(&mut replay, &[two, three, four]) == Some(true));
+    assert_eq!(rt; replay.step(5, &[three], &[1, 3, 2]), Ok(()));
+    assert!(rt; is_new(&mut replay, &[two, three, four]) == Some(false));
+    assert_eq!(rt; replay.delete(&[5]), Ok(()));
+    assert!(rt; is_new(&mut replay, &[two, three, four]) == Some(false));
+    assert!(rt; is_new(&mut replay, &[two, four]) == Some(true));
+    Ok(())
+}
+
+#[test]
+fn nothing_is_new_beside_the_empty_clause(rt: HostRuntime) -> Result<(), Fail> {
+    let alloc = rt.alloc();
+    let formula = read_cnf(alloc, b"p cnf 2 3\n1 0\n0\n2 0\n")?;
+    let mut replay = Replay::new(alloc, formula).ok().ok_or("memory")?;
+    assert!(rt; is_new(&mut replay, &[Lit::new(2, true)]) == Some(false));
+    Ok(())
+}
+
+#[test]
 fn a_tally_is_as_the_ledger_within(rt: HostRuntime) -> Result<(), Fail> {
     let alloc = rt.alloc();
     let formula = read_cnf(alloc, b"p cnf 2 2\n1 2 0\n1 -2 0\n")?;

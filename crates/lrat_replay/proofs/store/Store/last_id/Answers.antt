@@ -7,4 +7,4 @@ use Rattle.lrat_replay.proofs.store.Store.last_id.Goals as goal
 pub returns : goal.returns
 returns c =
     c.last_of.ensures ∙ ap (λ xs. slice_index xs (length xs - 1)) c.deref.ensures.value ∙ sym (last_number-is 0 c.self.inside.ids.items)
-    ∙ sym (last_id-is c.self.inside.formula c.self.inside.steps c.self.inside.ids.items c.self.inside.deleted.items c.self.invariant) ∙ ap last_id c.self.view_is
+    ∙ sym (last_id-is c.self.inside.formula c.self.inside.steps c.self.inside.ids.items c.self.inside.deleted.items c.self.invariant.store) ∙ ap last_id c.self.view_is
