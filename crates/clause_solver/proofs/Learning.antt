@@ -1,5 +1,5 @@
 -- The learned clause is settled after a backjump.
-use Rattle.std.proofs.Common.{◌≡◌, ℕ, zero, suc, ◌+◌, ◌-◌, ◌*◌, ◌<◌, ◌≤◌, true, false, List, [], ◌∷◌, ◌++◌, length, get_or, ◌⊎◌, inl, inr, refl, sym, ap, ◌∙◌, subst, arith, Option, None, Some, length-append}
+use Rattle.std.proofs.Common.{◌≡◌, ℕ, zero, suc, ◌+◌, ◌-◌, ◌*◌, ◌<◌, ◌≤◌, Bool, true, false, List, [], ◌∷◌, ◌++◌, length, get_or, ◌⊎◌, inl, inr, refl, sym, ap, ◌∙◌, subst, arith, Option, None, Some, length-append}
 use Rattle.std.specs.Prelude.{slice_get}
 use Rattle.std.proofs.lemmas.Bool.{true≢false}
 use Rattle.std.proofs.lemmas.Option.{get_or_from_slice_get, slice_get_within}
@@ -23,7 +23,7 @@ use Rattle.clause_solver.proofs.Propagation.{all_over, over_has, pushed_fewer}
 use Rattle.clause_solver.proofs.Steps.{over_more}
 use Rattle.clause_solver.proofs.Backjump.{reasons_back}
 use Rattle.clause_solver.proofs.Watching.{oldest-skip, off_at_zero, off_before, watching_forced, watching_learned, watching_back}
-use Rattle.clause_solver.proofs.Visits.{unit_of}
+use Rattle.clause_solver.proofs.Visits.{unit_of, whole_two}
 
 pub get-last : (cs : List (List Literal)) (x : List Literal) (k : ℕ) → k ≡ length cs → slice_get (cs ++ x ∷ []) k ≡ Some x
 get-last [] x zero e = refl
@@ -95,19 +95,20 @@ module _ (work : Work) (clause : List Literal) (l : IsLearning work clause) wher
         | inr h ↦ let w = slice_get_within clause 1 h.two h.at in absurd (omega arith)
       ]
 
-    pub learned_watched : (length clause ≡ 1 → ⊥) → (two : Literal) → two ≡ get_or clause 1 two → (new : Watches) → HasSettled work.watches new (Some (record { one = one; two = two }))
+    pub learned_watched : (length clause ≡ 1 → ⊥) → (two : Literal) → two ≡ get_or clause 1 two → (is_whole : Bool) → (is_whole ≡ true → length clause ≡ 2) → (new : Watches) → HasSettled work.watches new (Some (record { one = one; two = two; is_whole = is_whole }))
         → IsWorking (record { clauses = work.clauses; trail = t; seen = work.seen; watches = new; looked = work.looked })
-    learned_watched ne two e new s = pushed new (Some (record { one = one; two = two })) s (
+    learned_watched ne two e is_whole short new s = pushed new (Some (record { one = one; two = two; is_whole = is_whole })) s (
       record {
         one_in = unit.is_in;
         two_in = two_in;
         apart = apart;
+        whole = λ k. whole_two clause one two (short k) unit.is_in two_in apart;
         one = λ k. satisfied;
         two = λ k. satisfied;
       },
       (
         tt,
-        off_before clause (record { one = one; two = two }) unit.is_in two_in apart work.trail.values
+        off_before clause (record { one = one; two = two; is_whole = is_whole }) unit.is_in two_in apart (λ k. whole_two clause one two (short k) unit.is_in two_in apart) work.trail.values
             (subst (λ x. known_by (before_last work.trail.values) (flip x) ≡ false) is_first h.first_open) (subst (λ x. known_by (before_last work.trail.values) (flip x) ≡ false) same h.two_open),
       ),
     ) where

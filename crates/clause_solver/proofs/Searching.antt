@@ -10,10 +10,11 @@ use Rattle.clause_solver.specs.Trail.{Track, known_by, oldest, AreFresh, AreValu
 use Rattle.clause_solver.specs.Plain.{AllRest, HaveReasons}
 use Rattle.clause_solver.specs.Copy.{IsCopy}
 use Rattle.clause_solver.specs.Search.{IsReady, Moment, Goes, RoundSo}
-use Rattle.clause_solver.specs.Watch.{width_of, count}
+use Rattle.clause_solver.specs.Watch.{width_of, count, IsEntry}
 use Rattle.clause_solver.specs.Watching.{IsWorking, IsQuiet, HasAdvanced}
 use Rattle.clause_solver.specs.declared.search.Round.{Round}
 use Rattle.clause_solver.specs.declared.search.Round.TheVariants.{Learned, Decided, Satisfied}
+use Rattle.clause_solver.specs.declared.watch.Entry.{Entry}
 use Rattle.clause_solver.specs.declared.watch.Watches.{Watches}
 use Rattle.clause_solver.specs.declared.work.Work.{Work}
 use Rattle.clause_solver.proofs.Levels.{oldest-none}
@@ -78,13 +79,13 @@ module _ (book : Book) (broken : Bool) (work : Work) (ready : IsReady book broke
   over : All (IsOver t.vars) work.clauses
   over = subst (λ n. All (IsOver n) work.clauses) (sym vars) ready.over
 
-  pub working_begun : (watches : Watches) → 2 * work.trail.vars + 2 ≤ width_of watches → count watches ≡ 0 → IsWorking (record { clauses = work.clauses; trail = t; seen = work.seen; watches = watches; looked = 0 })
-  working_begun watches wide empty = record {
+  pub working_begun : (watches : Watches) → 2 * work.trail.vars + 2 ≤ width_of watches → count watches ≡ 0 → ((entry : Entry) → IsEntry watches entry → ⊥) → IsWorking (record { clauses = work.clauses; trail = t; seen = work.seen; watches = watches; looked = 0 })
+  working_begun watches wide none_settled empty = record {
     over = over;
     wide = subst (λ n. 2 * n + 2 ≤ width_of watches) (sym vars) wide;
     fresh = subst AreFresh (sym none) tt;
     reasons = subst (HaveReasons work.clauses) (sym none) tt;
-    watching = watching_begun work.clauses t.values watches none empty;
+    watching = watching_begun work.clauses t.values watches none none_settled empty;
   }
 
   pub goes_begun : Goes (record { book = book; broken = broken; clauses = work.clauses; track = t; width = room work.seen })

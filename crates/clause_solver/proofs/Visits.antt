@@ -1,18 +1,19 @@
 -- Steps of propagation over watched literals.
-use Rattle.std.proofs.Common.{◌≡◌, ℕ, zero, suc, ◌+◌, ◌*◌, ◌<◌, ◌≤◌, true, false, List, [], ◌∷◌, length, take, get_or, ◌⊎◌, inl, inr, refl, sym, ap, ◌∙◌, subst, arith, Option, None, Some, ◌++◌}
+use Rattle.std.proofs.Common.{◌≡◌, ℕ, zero, suc, ◌+◌, ◌*◌, ◌<◌, ◌≤◌, Bool, true, false, List, [], ◌∷◌, length, take, get_or, ◌⊎◌, inl, inr, refl, sym, ap, ◌∙◌, subst, arith, Option, None, Some, ◌++◌, Vec, Global}
 use Rattle.std.specs.Prelude.{slice_get}
-use Rattle.std.proofs.lemmas.Bool.{cases_eq, both_ways, false_from_ne_true, eq-eqb}
+use Rattle.std.proofs.lemmas.Bool.{cases_eq, both_ways, false_from_ne_true, eq-eqb, true≢false}
 use Rattle.std.proofs.lemmas.List.{take_more}
 use Rattle.std.proofs.lemmas.Option.{slice_get-get_or}
 use Rattle.clause_core.specs.Literal.{Literal, flip, number, has}
 use Rattle.clause_core.specs.Formula.{IsOver}
-use Rattle.clause_core.proofs.Literals.{flip-flip, same-true}
+use Rattle.clause_core.proofs.Literals.{flip-flip, same-true, has-cases}
 use Rattle.lrat_replay.specs.Status.{Known, IsSatisfied, IsUnit, IsConflict}
 use Rattle.clause_solver.specs.Trail.{Track, known_by, oldest, unassigned, AreFresh, IsVariableOf}
 use Rattle.clause_solver.specs.Plain.{IsConflictAt, AllRest}
-use Rattle.clause_solver.specs.Watch.{list_of, count, pair_at, StandsBelow, IsListed, HasTurned, HasSettled}
-use Rattle.clause_solver.specs.Watching.{IsWatched, HoldsOff, IsWorking, HasAdvanced, IsVisiting}
+use Rattle.clause_solver.specs.Watch.{entries_of, list_of, count, pair_at, StandsBelow, IsListed, HasNoted, HasTurned, HasSettled}
+use Rattle.clause_solver.specs.Watching.{IsWatched, HoldsOff, IsBlocked, IsWorking, HasAdvanced, IsVisiting}
 use Rattle.clause_solver.specs.declared.value.Value.{Value}
+use Rattle.clause_solver.specs.declared.watch.Entry.{Entry}
 use Rattle.clause_solver.specs.declared.watch.Pair.{Pair}
 use Rattle.clause_solver.specs.declared.watch.Watches.{Watches}
 use Rattle.clause_solver.specs.declared.work.Work.{Work}
@@ -21,11 +22,51 @@ use Rattle.clause_solver.proofs.Marking.{has-push}
 use Rattle.clause_solver.proofs.Levels.{known-oldest, oldest-all, oldest-none}
 use Rattle.clause_solver.proofs.AnalyseLaws.{fresh_consistent}
 use Rattle.clause_solver.proofs.Propagation.{all_over, over_has, pushed_fewer}
-use Rattle.clause_solver.proofs.Watching.{satisfied_more, oldest-skip, off_at_zero, watching_rests, watching_forced, watching_looked, watching_turned, watching_settled}
+use Rattle.clause_solver.proofs.Watching.{satisfied_more, oldest-skip, off_at_zero, watching_rests, watching_forced, watching_looked, watching_noted, watching_turned, watching_settled}
 
 -- one more literal of a clause
 pub has-take : (clause : List Literal) (i : ℕ) (x l : Literal) → i < length clause → x ≡ get_or clause i x → has (take (i + 1) clause) l ≡ true → (has (take i clause) l ≡ true) ⊎ (x ≡ l)
 has-take clause i x l h e k = has-push (take i clause) x l (subst (λ c. has c l ≡ true) (take_more clause i x h ∙ ap (λ y. take i clause ++ y ∷ []) (sym e)) k)
+
+-- a clause of two literals has no third one
+is_one_of : (x y l : Literal) → has (x ∷ y ∷ []) l ≡ true → (x ≡ l) ⊎ (y ≡ l)
+is_one_of x y l h = elim (has-cases x l (y ∷ []) h) [
+  | inl e ↦ inl e
+  | inr k ↦ elim (has-cases y l [] k) [ inl e ↦ inr e | inr j ↦ absurd (true≢false (sym j)) ]
+]
+
+pub whole_two : (clause : List Literal) (one two : Literal) → length clause ≡ 2 → has clause one ≡ true → has clause two ≡ true → (one ≡ two → ⊥) → (l : Literal) → has clause l ≡ true → (one ≡ l) ⊎ (two ≡ l)
+whole_two [] one two n a b ne l h = absurd (omega arith)
+whole_two (x ∷ []) one two n a b ne l h = absurd (omega arith)
+whole_two (x ∷ y ∷ z ∷ zs) one two n a b ne l h = absurd (omega arith)
+whole_two (x ∷ y ∷ []) one two n a b ne l h = elim (is_one_of x y one a) [
+  | inl p ↦ elim (is_one_of x y two b) [
+    | inl q ↦ absurd (ne (sym p ∙ q))
+    | inr q ↦ elim (is_one_of x y l h) [ inl r ↦ inl (sym p ∙ r) | inr r ↦ inr (sym q ∙ r) ]
+  ]
+  | inr p ↦ elim (is_one_of x y two b) [
+    | inl q ↦ elim (is_one_of x y l h) [ inl r ↦ inr (sym q ∙ r) | inr r ↦ inl (sym p ∙ r) ]
+    | inr q ↦ absurd (ne (sym p ∙ q))
+  ]
+]
+
+-- of a clause that has no other literals than two, one is left beside one of these
+module _ (clause : List Literal) (pair : Pair) (looked known : Known) (w : IsWatched clause pair looked known) (other rest : Literal) (stays : (other ≡ pair.one) ⊎ (other ≡ pair.two))
+    (is : ((pair.one ≡ other) × (rest ≡ pair.two)) ⊎ ((pair.one ≡ other → ⊥) × (rest ≡ pair.one))) where
+  pub rest_in : has clause rest ≡ true
+  rest_in = elim is [ inl h ↦ subst (λ x. has clause x ≡ true) (sym h.1) w.two_in | inr h ↦ subst (λ x. has clause x ≡ true) (sym h.1) w.one_in ]
+
+  pub rest_apart : rest ≡ other → ⊥
+  rest_apart e = elim is [ inl h ↦ w.apart (h.0 ∙ sym e ∙ h.1) | inr h ↦ h.0 (sym h.1 ∙ e) ]
+
+  pub rest_whole : pair.is_whole ≡ true → (l : Literal) → has clause l ≡ true → (other ≡ l) ⊎ (rest ≡ l)
+  rest_whole k l h = elim is [
+    | inl a ↦ elim (w.whole k l h) [ inl e ↦ inl (sym a.0 ∙ e) | inr e ↦ inr (a.1 ∙ e) ]
+    | inr a ↦ elim (w.whole k l h) [
+      | inl e ↦ inr (a.1 ∙ e)
+      | inr e ↦ elim stays [ inl q ↦ absurd (a.0 (sym q)) | inr q ↦ inl (q ∙ e) ]
+    ]
+  ]
 
 -- literals with the same number are the same
 pub same_number : (a b : Literal) → number a ≡ number b → a ≡ b
@@ -180,6 +221,20 @@ module _ (work : Work) (lost : Literal) (index place : ℕ) (v : IsVisiting work
   pub visiting_same : ((clause : List Literal) (pair : Pair) → slice_get work.clauses place ≡ Some clause → pair_at work.watches place ≡ Some pair → IsSatisfied (known_by work.trail.values) clause) → IsVisiting work lost index
   visiting_same here = visiting_stays work.trail v.working refl (λ l k. k) here
 
+  -- the blocker of the entry is true
+  module _ (entry : Entry) (is : slice_get (entries_of work.watches lost) index ≡ Some entry) (same : place ≡ entry.place) where
+    blocked : IsBlocked work.clauses entry
+    blocked = v.working.watching.blocked entry (record { list = number lost; index = index; is = is })
+
+    pub blocker_variable : IsVariableOf work.trail.vars entry.blocker
+    blocker_variable = over_has work.trail.vars blocked.clause entry.blocker (all_over work.trail.vars work.clauses entry.place blocked.clause v.working.over blocked.found) blocked.is_in
+
+    pub visiting_blocked : known_by work.trail.values entry.blocker ≡ true → IsVisiting work lost index
+    visiting_blocked k = visiting_same (λ clause pair found e.
+        let s : Some blocked.clause ≡ Some clause = sym blocked.found ∙ ap (slice_get work.clauses) (sym same) ∙ found in
+        let c : blocked.clause ≡ clause = cc in
+        subst (IsSatisfied (known_by work.trail.values)) c (record { lit = entry.blocker; is_in = blocked.is_in; is_known = k }))
+
   module _ (pair : Pair) (q : IsPairOf work place pair) (was : pair_at work.watches place ≡ Some pair) (other : Literal) (o : IsOther pair lost other) where
     pub other_inside : has q.clause other ≡ true
     other_inside = other_in q.clause pair (known_by (oldest work.looked work.trail.values)) (known_by work.trail.values) other q.watched o.stays
@@ -187,24 +242,53 @@ module _ (work : Work) (lost : Literal) (index place : ℕ) (v : IsVisiting work
     pub other_variable : IsVariableOf work.trail.vars other
     other_variable = over_has work.trail.vars q.clause other q.over other_inside
 
-    -- the other literal is true
-    pub visiting_kept : known_by work.trail.values other ≡ true → IsVisiting work lost index
-    visiting_kept k = visiting_same (λ clause p found e. subst (IsSatisfied (known_by work.trail.values)) (same_clause_at work place pair q clause found) (record { lit = other; is_in = other_inside; is_known = k }))
+    visiting_true : (x : Literal) → has q.clause x ≡ true → known_by work.trail.values x ≡ true → IsVisiting work lost index
+    visiting_true x x_in k = visiting_same (λ clause p found e. subst (IsSatisfied (known_by work.trail.values)) (same_clause_at work place pair q clause found) (record { lit = x; is_in = x_in; is_known = k }))
+
+    -- a literal of the clause is true, and is noted as the blocker
+    module _ (entry : Entry) (is_place : entry.place ≡ place) (is_in : has q.clause entry.blocker ≡ true) (new : Watches) (n : HasNoted work.watches new entry) where
+      counts : count new ≡ count work.watches
+      counts = ap (λ (ps : Vec (Option Pair) Global). length ps.items) n.pairs
+
+      noted_blocked : IsBlocked work.clauses entry
+      noted_blocked = record { clause = q.clause; found = ap (slice_get work.clauses) is_place ∙ q.found; is_in = is_in }
+
+      pub working_noted : IsWorking (record { clauses = work.clauses; trail = work.trail; seen = work.seen; watches = new; looked = work.looked })
+      working_noted = record {
+        over = v.working.over;
+        wide = subst (λ n. 2 * work.trail.vars + 2 ≤ n) (sym n.width) v.working.wide;
+        fresh = v.working.fresh;
+        reasons = v.working.reasons;
+        watching = watching_noted work.clauses work.trail.values work.looked work.watches new v.working.watching entry n noted_blocked;
+      }
+
+      pub visiting_noted : known_by work.trail.values entry.blocker ≡ true → IsVisiting (record { clauses = work.clauses; trail = work.trail; seen = work.seen; watches = new; looked = work.looked }) lost index
+      visiting_noted k = let now = visiting_true entry.blocker is_in k in record {
+        working = working_noted;
+        settled = let s = v.settled in let c = counts in omega arith;
+        is_false = v.is_false;
+        variable = v.variable;
+        inside = subst (λ xs. index ≤ length xs) (sym (n.lists lost)) now.inside;
+        waits = λ k clause p found e side. elim (now.waits k clause p found (ap (λ (ps : Vec (Option Pair) Global). get_or ps.items k None) (sym n.pairs) ∙ e) side) [
+          | inl s ↦ inl s
+          | inr s ↦ inr (subst (λ xs. StandsBelow xs index k) (sym (n.lists lost)) s)
+        ];
+      }
 
     -- the clause watches a third one
     module _ (one : Literal) (one_in : has q.clause one ≡ true) (free : known_by work.trail.values (flip one) ≡ false) (apart : one ≡ other → ⊥) where
       pub not_lost : number lost ≡ number one → ⊥
       not_lost e = both_ways (known_by work.trail.values (flip one)) free (ap (λ x. known_by work.trail.values (flip x)) (sym (same_number lost one e)) ∙ v.is_false)
 
-      module _ (new : Watches) (t : HasTurned work.watches new lost index (record { one = one; two = other })) where
+      module _ (new : Watches) (t : HasTurned work.watches new lost index (record { one = one; two = other; is_whole = false })) where
         pub working_turned : IsWorking (record { clauses = work.clauses; trail = work.trail; seen = work.seen; watches = new; looked = work.looked })
         working_turned = record {
           over = v.working.over;
           wide = subst (λ n. 2 * work.trail.vars + 2 ≤ n) (sym t.width) v.working.wide;
           fresh = v.working.fresh;
           reasons = v.working.reasons;
-          watching = watching_turned work.clauses work.trail.values work.looked work.watches new v.working.watching lost index place at pair (record { one = one; two = other }) t was q.clause q.found o.stays
-              (λ e. o.apart (same_number other lost e)) one_in apart free;
+          watching = watching_turned work.clauses work.trail.values work.looked work.watches new v.working.watching lost index place at pair (record { one = one; two = other; is_whole = false }) t was q.clause q.found o.stays
+              (λ e. o.apart (same_number other lost e)) one_in apart free refl;
         }
 
         pub visiting_turned : IsVisiting (record { clauses = work.clauses; trail = work.trail; seen = work.seen; watches = new; looked = work.looked }) lost index
@@ -225,13 +309,13 @@ module _ (work : Work) (lost : Literal) (index place : ℕ) (v : IsVisiting work
             ]
           ];
         } where
-          same_pair : (p : Pair) → pair_at new (get_or (list_of work.watches lost) index 0) ≡ Some p → (let r : Pair = record { one = one; two = other } in r) ≡ p
+          same_pair : (p : Pair) → pair_at new (get_or (list_of work.watches lost) index 0) ≡ Some p → (let r : Pair = record { one = one; two = other; is_whole = false } in r) ≡ p
           same_pair p e =
-              let r : Pair = record { one = one; two = other } in
+              let r : Pair = record { one = one; two = other; is_whole = false } in
               let s : Some r ≡ Some p = sym t.here ∙ e in
               cc
 
-          neither : (p : Pair) → (let r : Pair = record { one = one; two = other } in r) ≡ p → (p.one ≡ lost) ⊎ (p.two ≡ lost) → ⊥
+          neither : (p : Pair) → (let r : Pair = record { one = one; two = other; is_whole = false } in r) ≡ p → (p.one ≡ lost) ⊎ (p.two ≡ lost) → ⊥
           neither p e (inl s) = not_lost (ap number (sym (ap (λ (r : Pair). r.one) e ∙ s)))
           neither p e (inr s) = o.apart (ap (λ (r : Pair). r.two) e ∙ s)
 
@@ -304,12 +388,13 @@ module _ (work : Work) (w : IsWorking work) (some : count work.watches < length 
         (off, off_at_zero clause pair work.trail.values (w.watching.early some).0);
   }
 
-  pub working_watched : (one two : Literal) → has clause one ≡ true → has clause two ≡ true → (two ≡ one → ⊥) → (new : Watches) → HasSettled work.watches new (Some (record { one = one; two = two }))
+  pub working_watched : (one two : Literal) (is_whole : Bool) → (is_whole ≡ true → length clause ≡ 2) → has clause one ≡ true → has clause two ≡ true → (two ≡ one → ⊥) → (new : Watches) → HasSettled work.watches new (Some (record { one = one; two = two; is_whole = is_whole }))
       → IsWorking (record { clauses = work.clauses; trail = work.trail; seen = work.seen; watches = new; looked = work.looked })
-  working_watched one two one_in two_in apart new s = working_settled (Some (record { one = one; two = two })) (record {
+  working_watched one two is_whole short one_in two_in apart new s = working_settled (Some (record { one = one; two = two; is_whole = is_whole })) (record {
     one_in = one_in;
     two_in = two_in;
     apart = λ e. apart (sym e);
+    whole = λ k. whole_two clause one two (short k) one_in two_in (λ e. apart (sym e));
     one = λ k. absurd (both_ways (known_by (oldest work.looked work.trail.values) (flip one)) (none_looked (flip one)) k);
     two = λ k. absurd (both_ways (known_by (oldest work.looked work.trail.values) (flip two)) (none_looked (flip two)) k);
   }) new s

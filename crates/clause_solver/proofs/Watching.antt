@@ -1,5 +1,5 @@
 -- What the watches of a search keep from one step to the next.
-use Rattle.std.proofs.Common.{◌≡◌, ℕ, zero, suc, ◌+◌, ◌-◌, ◌<◌, ◌≤◌, Bool, true, false, List, [], ◌∷◌, ◌++◌, length, drop, get_or, ◌⊎◌, inl, inr, refl, sym, ap, ◌∙◌, subst, arith, Option, None, Some, length-append}
+use Rattle.std.proofs.Common.{◌≡◌, ℕ, zero, suc, ◌+◌, ◌-◌, ◌<◌, ◌≤◌, Bool, true, false, List, [], ◌∷◌, ◌++◌, length, drop, get_or, ◌⊎◌, inl, inr, refl, sym, ap, ◌∙◌, subst, arith, Option, None, Some, Vec, Global, length-append}
 use Rattle.std.specs.Prelude.{slice_get}
 use Rattle.std.proofs.lemmas.Bool.{cases_Bool, cases_eq, both_ways, true≢false, false_from_ne_true}
 use Rattle.clause_core.specs.Literal.{Literal, flip, number, has}
@@ -8,9 +8,10 @@ use Rattle.lrat_replay.specs.Status.{Known, Rests, IsSatisfied}
 use Rattle.lrat_replay.proofs.Runs.{IsWithin}
 use Rattle.clause_solver.specs.Trail.{known_by, oldest, before_last, has_decision}
 use Rattle.clause_solver.specs.Plain.{AllRest}
-use Rattle.clause_solver.specs.Watch.{list_of, count, pair_at, IsListed, HasSettled, HasTurned}
-use Rattle.clause_solver.specs.Watching.{IsWatched, HoldsOff, HeldOffBefore, HeldOffAtDecisions, IsGuarded, IsWatching}
+use Rattle.clause_solver.specs.Watch.{list_of, count, pair_at, IsEntry, StandsBelow, IsListed, HasNoted, IsOfPair, HasSettled, HasTurned}
+use Rattle.clause_solver.specs.Watching.{IsWhole, IsWatched, HoldsOff, HeldOffBefore, HeldOffAtDecisions, IsGuarded, IsBlocked, IsWatching}
 use Rattle.clause_solver.specs.declared.value.Value.{Value}
+use Rattle.clause_solver.specs.declared.watch.Entry.{Entry}
 use Rattle.clause_solver.specs.declared.watch.Pair.{Pair}
 use Rattle.clause_solver.specs.declared.watch.Watches.{Watches}
 use Rattle.clause_solver.proofs.Reduce.{value-older}
@@ -39,6 +40,7 @@ off_more clause (Some p) looked known more w h = record {
   one_in = h.one_in;
   two_in = h.two_in;
   apart = h.apart;
+  whole = h.whole;
   one = λ k. satisfied_more clause known more w (h.one k);
   two = λ k. satisfied_more clause known more w (h.two k);
 }
@@ -74,6 +76,7 @@ module _ (clauses : List (List Literal)) (values : List Value) (looked : ℕ) (w
   watching_forced lit id = record {
     one = w.one;
     two = w.two;
+    blocked = w.blocked;
     guarded = λ k clause low found. guarded_forced clause (pair_at watches k) looked values lit id w.within (w.guarded k clause low found);
     within = let i = w.within in omega arith;
     counted = w.counted;
@@ -84,6 +87,7 @@ module _ (clauses : List (List Literal)) (values : List Value) (looked : ℕ) (w
   watching_decided lit all done = let i = w.within in record {
     one = w.one;
     two = w.two;
+    blocked = w.blocked;
     guarded = λ k clause low found. guarded_decided clause (pair_at watches k) looked values lit (omega arith) (w.guarded k clause low found);
     within = omega arith;
     counted = w.counted;
@@ -106,6 +110,7 @@ module _ (clauses : List (List Literal)) (values : List Value) (looked : ℕ) (w
       one_in = h.one_in;
       two_in = h.two_in;
       apart = h.apart;
+      whole = h.whole;
       one = side clause p.one h.one (λ q. satisfied k clause p found e (inl q));
       two = side clause p.two h.two (λ q. satisfied k clause p found e (inr q));
     }
@@ -114,19 +119,38 @@ module _ (clauses : List (List Literal)) (values : List Value) (looked : ℕ) (w
     watching_looked = record {
       one = w.one;
       two = w.two;
+      blocked = w.blocked;
       guarded = λ k clause low found. let h = w.guarded k clause low found in (off_looked k clause (pair_at watches k) found refl h.0, h.1);
       within = omega arith;
       counted = w.counted;
       early = λ h. absurd (omega arith);
     }
 
+-- another blocker
+pub watching_noted : (clauses : List (List Literal)) (values : List Value) (looked : ℕ) (old new : Watches) → IsWatching clauses values looked old → (entry : Entry) → HasNoted old new entry → IsBlocked clauses entry → IsWatching clauses values looked new
+watching_noted clauses values looked old new w entry n b =
+    let pairs : (k : ℕ) → pair_at new k ≡ pair_at old k = λ k. ap (λ (ps : Vec (Option Pair) Global). get_or ps.items k None) n.pairs in
+    let counts : count new ≡ count old = ap (λ (ps : Vec (Option Pair) Global). length ps.items) n.pairs in
+    record {
+      one = λ k q e. listed q.one k (w.one k q (sym (pairs k) ∙ e));
+      two = λ k q e. listed q.two k (w.two k q (sym (pairs k) ∙ e));
+      blocked = λ e i. elim (n.entries e i) [ inl j ↦ w.blocked e j | inr q ↦ subst (IsBlocked clauses) (sym q) b ];
+      guarded = λ k c low h. subst (λ o. IsGuarded c o looked values) (sym (pairs k)) (w.guarded k c (omega arith) h);
+      within = w.within;
+      counted = let c = w.counted in omega arith;
+      early = λ h. w.early (omega arith);
+    } where
+      listed : (l : Literal) (k : ℕ) → IsListed old l k → IsListed new l k
+      listed l k s = subst (λ xs. StandsBelow xs (length xs) k) (sym (n.lists l)) s
+
 -- another literal, that is not false, in place of one of the two
-module _ (clause : List Literal) (p pair : Pair) (stays : (pair.two ≡ p.one) ⊎ (pair.two ≡ p.two)) (one_in : has clause pair.one ≡ true) (apart : pair.one ≡ pair.two → ⊥) where
+module _ (clause : List Literal) (p pair : Pair) (stays : (pair.two ≡ p.one) ⊎ (pair.two ≡ p.two)) (one_in : has clause pair.one ≡ true) (apart : pair.one ≡ pair.two → ⊥) (part : pair.is_whole ≡ false) where
   replaced : (looked known : Known) → looked (flip pair.one) ≡ false → IsWatched clause p looked known → IsWatched clause pair looked known
   replaced looked known free h = record {
     one_in = one_in;
     two_in = elim stays [ inl e ↦ subst (λ x. has clause x ≡ true) (sym e) h.one_in | inr e ↦ subst (λ x. has clause x ≡ true) (sym e) h.two_in ];
     apart = apart;
+    whole = λ k. absurd (both_ways pair.is_whole part k);
     one = λ k. absurd (both_ways (looked (flip pair.one)) free k);
     two = λ k. elim stays [ inl e ↦ h.one (ap (λ x. looked (flip x)) (sym e) ∙ k) | inr e ↦ h.two (ap (λ x. looked (flip x)) (sym e) ∙ k) ];
   }
@@ -146,10 +170,24 @@ module _ (clause : List Literal) (p pair : Pair) (stays : (pair.two ≡ p.one) �
       both_ways (known_by values (flip pair.one)) free (subst (λ vs. known_by vs (flip pair.one) ≡ true) (oldest-all values (length values) refl) (known-oldest values looked (length values) (flip pair.one) w k))) in
       (replaced (known_by (oldest looked values)) (known_by values) old h.0, replaced_before values free h.1)
 
+-- the places of clauses that watch literals
+low_pair : (watches : Watches) (k : ℕ) (q : Pair) → pair_at watches k ≡ Some q → k < count watches
+low_pair watches k q e = inside watches.pairs.items k e where
+  inside : (ps : List (Option Pair)) (k : ℕ) → get_or ps k None ≡ Some q → k < length ps
+  inside [] k h = absurd (cc)
+  inside (x ∷ ps) zero h = omega arith
+  inside (x ∷ ps) (suc k) h = let r = inside ps k h in omega arith
+
+-- a literal that a clause watches is one of it
+of_pair_in : (clause : List Literal) (pair : Option Pair) (looked known : Known) (place : ℕ) (e : Entry) → HoldsOff clause pair looked known → IsOfPair pair place e → has clause e.blocker ≡ true
+of_pair_in clause pair looked known place e h o =
+    let w : IsWatched clause o.both looked known = subst (λ p. HoldsOff clause p looked known) o.is h in
+    elim o.blocker [ inl q ↦ subst (λ x. has clause x ≡ true) (sym q) w.one_in | inr q ↦ subst (λ x. has clause x ≡ true) (sym q) w.two_in ]
+
 -- a clause watches another literal
 module _ (clauses : List (List Literal)) (values : List Value) (looked : ℕ) (old new : Watches) (w : IsWatching clauses values looked old) (lost : Literal) (index place : ℕ) (at : place ≡ get_or (list_of old lost) index 0)
     (p pair : Pair) (t : HasTurned old new lost index pair) (was : pair_at old place ≡ Some p) (clause : List Literal) (found : slice_get clauses place ≡ Some clause)
-    (stays : (pair.two ≡ p.one) ⊎ (pair.two ≡ p.two)) (other : number pair.two ≡ number lost → ⊥) (one_in : has clause pair.one ≡ true) (apart : pair.one ≡ pair.two → ⊥) (free : known_by values (flip pair.one) ≡ false) where
+    (stays : (pair.two ≡ p.one) ⊎ (pair.two ≡ p.two)) (other : number pair.two ≡ number lost → ⊥) (one_in : has clause pair.one ≡ true) (apart : pair.one ≡ pair.two → ⊥) (free : known_by values (flip pair.one) ≡ false) (part : pair.is_whole ≡ false) where
   here : pair_at new place ≡ Some pair
   here = ap (pair_at new) at ∙ t.here
 
@@ -165,6 +203,13 @@ module _ (clauses : List (List Literal)) (values : List Value) (looked : ℕ) (o
   two_listed : IsListed old pair.two place
   two_listed = elim stays [ inl e ↦ subst (λ x. IsListed old x place) (sym e) (w.one place p was) | inr e ↦ subst (λ x. IsListed old x place) (sym e) (w.two place p was) ]
 
+  two_in : has clause pair.two ≡ true
+  two_in =
+      let low : place < count old = low_pair old place p was in
+      let g : IsGuarded clause (Some p) looked values = subst (λ o. IsGuarded clause o looked values) was (w.guarded place clause low found) in
+      let h : IsWatched clause p (known_by (oldest looked values)) (known_by values) = g.0 in
+      elim stays [ inl e ↦ subst (λ x. has clause x ≡ true) (sym e) h.one_in | inr e ↦ subst (λ x. has clause x ≡ true) (sym e) h.two_in ]
+
   pub watching_turned : IsWatching clauses values looked new
   watching_turned = record {
     one = λ k q e. elim (cases_eq k place) [
@@ -175,12 +220,16 @@ module _ (clauses : List (List Literal)) (values : List Value) (looked : ℕ) (o
       | inl s ↦ subst (λ n. IsListed new q.two n) (sym s) (subst (λ (r : Pair). IsListed new r.two place) (same_pair q (ap (pair_at new) (sym s) ∙ e)) (t.apart pair.two place other two_listed))
       | inr ne ↦ t.kept q.two k (λ s. ne (s ∙ sym at)) (w.two k q (sym (others k ne) ∙ e))
     ];
+    blocked = λ e i. elim (t.entries e i) [
+      | inl j ↦ w.blocked e j
+      | inr q ↦ record { clause = clause; found = ap (slice_get clauses) (q.0 ∙ sym at) ∙ found; is_in = subst (λ x. has clause x ≡ true) (sym q.1) two_in }
+    ];
     guarded = λ k c low h. elim (cases_eq k place) [
       | inl s ↦
           let e : clause ≡ c = same_clause c (ap (slice_get clauses) (sym s) ∙ h) in
           let low' : place < count old = (let same = t.same in omega arith) in
           let g : IsGuarded clause (Some p) looked values = subst (λ o. IsGuarded clause o looked values) was (w.guarded place clause low' found) in
-          let r : IsGuarded clause (Some pair) looked values = guarded_replaced clause p pair stays one_in apart looked values w.within free g in
+          let r : IsGuarded clause (Some pair) looked values = guarded_replaced clause p pair stays one_in apart part looked values w.within free g in
           subst (λ x. IsGuarded x (pair_at new k) looked values) e (subst (λ o. IsGuarded clause o looked values) (sym (ap (pair_at new) s ∙ here)) r)
       | inr ne ↦ subst (λ o. IsGuarded c o looked values) (sym (others k ne)) (w.guarded k c (let same = t.same in omega arith) h)
     ];
@@ -196,29 +245,26 @@ module _ (clauses : List (List Literal)) (values : List Value) (looked : ℕ) (o
     below : (a b : ℕ) → a < b + 1 → (a ≡ b → ⊥) → a < b
     below a b h ne = grind arith
 
-  low_pair : (k : ℕ) (q : Pair) → pair_at new k ≡ Some q → k < count new
-  low_pair k q e = inside new.pairs.items k e where
-    inside : (ps : List (Option Pair)) (k : ℕ) → get_or ps k None ≡ Some q → k < length ps
-    inside [] k h = absurd (cc)
-    inside (x ∷ ps) zero h = omega arith
-    inside (x ∷ ps) (suc k) h = let r = inside ps k h in omega arith
-
   listed_one : (k : ℕ) (q : Pair) → pair_at new k ≡ Some q → IsListed new q.one k
   listed_one k q e = elim (cases_eq k (count old)) [
     | inl d ↦ subst (IsListed new q.one) (sym d) (s.kept_one q (sym s.here ∙ ap (pair_at new) (sym d) ∙ e))
-    | inr ne ↦ let l = low_pair k q e in let m = s.more in let b = old_one k (omega arith) ne in s.kept q.one k (w.one k q (sym (s.others k b) ∙ e))
+    | inr ne ↦ let l = low_pair new k q e in let m = s.more in let b = old_one k (omega arith) ne in s.kept q.one k (w.one k q (sym (s.others k b) ∙ e))
   ]
 
   listed_two : (k : ℕ) (q : Pair) → pair_at new k ≡ Some q → IsListed new q.two k
   listed_two k q e = elim (cases_eq k (count old)) [
     | inl d ↦ subst (IsListed new q.two) (sym d) (s.kept_two q (sym s.here ∙ ap (pair_at new) (sym d) ∙ e))
-    | inr ne ↦ let l = low_pair k q e in let m = s.more in let b = old_one k (omega arith) ne in s.kept q.two k (w.two k q (sym (s.others k b) ∙ e))
+    | inr ne ↦ let l = low_pair new k q e in let m = s.more in let b = old_one k (omega arith) ne in s.kept q.two k (w.two k q (sym (s.others k b) ∙ e))
   ]
 
   pub watching_settled : count old < length clauses → (clause : List Literal) → slice_get clauses (count old) ≡ Some clause → IsGuarded clause pair looked values → IsWatching clauses values looked new
   watching_settled some clause found g = record {
     one = listed_one;
     two = listed_two;
+    blocked = λ e i. elim (s.entries e i) [
+      | inl j ↦ w.blocked e j
+      | inr o ↦ record { clause = clause; found = ap (slice_get clauses) o.place ∙ found; is_in = of_pair_in clause pair (known_by (oldest looked values)) (known_by values) (count old) e g.0 o }
+    ];
     guarded = λ k c low h. elim (cases_eq k (count old)) [
       | inl d ↦
           let q : Some clause ≡ Some c = sym found ∙ ap (slice_get clauses) (sym d) ∙ h in
@@ -239,6 +285,14 @@ module _ (clauses : List (List Literal)) (values : List Value) (looked : ℕ) (o
       record {
         one = listed_one;
         two = listed_two;
+        blocked = λ e i. elim (s.entries e i) [
+          | inl j ↦
+              let b = w.blocked e j in
+              record { clause = b.clause; found = ap (λ cs. slice_get cs e.place) grown ∙ get-kept clauses clause e.place b.clause b.found; is_in = b.is_in }
+          | inr o ↦
+              let at : e.place ≡ length clauses = o.place ∙ (omega arith) in
+              record { clause = clause; found = ap (λ cs. slice_get cs e.place) grown ∙ get-end clauses clause e.place at; is_in = of_pair_in clause pair (known_by (oldest looked values)) (known_by values) (count old) e g.0 o }
+        ];
         guarded = λ k d low h. elim (cases_eq k (count old)) [
           | inl q ↦
               let at : k ≡ length clauses = omega arith in
@@ -258,6 +312,17 @@ module _ (clauses : List (List Literal)) (values : List Value) (looked : ℕ) (o
         get-last-is (c ∷ cs) x zero d e h = absurd (omega arith)
         get-last-is (c ∷ cs) x (suc k) d e h = get-last-is cs x k d (omega arith) h
 
+        get-kept : (cs : List (List Literal)) (x : List Literal) (k : ℕ) (d : List Literal) → slice_get cs k ≡ Some d → slice_get (cs ++ x ∷ []) k ≡ Some d
+        get-kept [] x k d h = absurd (cc)
+        get-kept (c ∷ cs) x zero d h = h
+        get-kept (c ∷ cs) x (suc k) d h = get-kept cs x k d h
+
+        get-end : (cs : List (List Literal)) (x : List Literal) (k : ℕ) → k ≡ length cs → slice_get (cs ++ x ∷ []) k ≡ Some x
+        get-end [] x zero e = refl
+        get-end [] x (suc k) e = absurd (omega arith)
+        get-end (c ∷ cs) x zero e = absurd (omega arith)
+        get-end (c ∷ cs) x (suc k) e = get-end cs x k (omega arith)
+
         get-front : (cs : List (List Literal)) (x : List Literal) (k : ℕ) (d : List Literal) → k < length cs → slice_get (cs ++ x ∷ []) k ≡ Some d → slice_get cs k ≡ Some d
         get-front [] x k d e h = absurd (omega arith)
         get-front (c ∷ cs) x zero d e h = h
@@ -272,10 +337,11 @@ off_at_zero clause pair (e ∷ older) h = by (e.reason) h (off_at_zero clause pa
   by (Some i) h more = (tt, more h)
 
 -- before anything is settled
-pub watching_begun : (clauses : List (List Literal)) (values : List Value) (watches : Watches) → values ≡ [] → count watches ≡ 0 → IsWatching clauses values 0 watches
-watching_begun clauses values watches e none = record {
+pub watching_begun : (clauses : List (List Literal)) (values : List Value) (watches : Watches) → values ≡ [] → count watches ≡ 0 → ((entry : Entry) → IsEntry watches entry → ⊥) → IsWatching clauses values 0 watches
+watching_begun clauses values watches e none empty = record {
   one = λ k pair h. absurd (no_pair watches.pairs.items k pair none h);
   two = λ k pair h. absurd (no_pair watches.pairs.items k pair none h);
+  blocked = λ entry i. absurd (empty entry i);
   guarded = λ k clause low found. absurd (omega arith);
   within = omega arith;
   counted = omega arith;
@@ -296,6 +362,7 @@ pub watching_back : (clauses : List (List Literal)) (values : List Value) (looke
 watching_back clauses values looked watches w all keep inside v is none = record {
   one = w.one;
   two = w.two;
+  blocked = w.blocked;
   guarded = λ k clause low found. back clause (pair_at watches k) (w.guarded k clause low found).1;
   within = let l = length-oldest values keep (omega arith) in omega arith;
   counted = w.counted;
@@ -311,12 +378,13 @@ watching_back clauses values looked watches w all keep inside v is none = record
       (subst (λ vs. HoldsOff clause pair (known_by vs) (known_by (oldest keep values))) (sym whole) off, here.1)
 
 -- two literals of a clause that are not false before the newest decision
-module _ (clause : List Literal) (pair : Pair) (one_in : has clause pair.one ≡ true) (two_in : has clause pair.two ≡ true) (apart : pair.one ≡ pair.two → ⊥) where
+module _ (clause : List Literal) (pair : Pair) (one_in : has clause pair.one ≡ true) (two_in : has clause pair.two ≡ true) (apart : pair.one ≡ pair.two → ⊥) (whole : pair.is_whole ≡ true → IsWhole clause pair) where
   off_open : (known : Known) → known (flip pair.one) ≡ false → known (flip pair.two) ≡ false → HoldsOff clause (Some pair) known known
   off_open known f g = record {
     one_in = one_in;
     two_in = two_in;
     apart = apart;
+    whole = whole;
     one = λ k. absurd (both_ways (known (flip pair.one)) f k);
     two = λ k. absurd (both_ways (known (flip pair.two)) g k);
   }

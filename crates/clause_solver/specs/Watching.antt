@@ -6,17 +6,23 @@ use Rattle.clause_core.specs.Formula.{IsOver}
 use Rattle.lrat_replay.specs.Status.{Known, IsSatisfied, IsUnit}
 use Rattle.clause_solver.specs.Trail.{known_by, oldest, before_last, has_decision, unassigned, AreFresh, IsVariableOf}
 use Rattle.clause_solver.specs.Plain.{HaveReasons}
-use Rattle.clause_solver.specs.Watch.{list_of, width_of, count, pair_at, StandsBelow, IsListed}
+use Rattle.clause_solver.specs.Watch.{list_of, width_of, count, pair_at, IsEntry, StandsBelow, IsListed}
 use Rattle.clause_solver.specs.declared.value.Value.{Value}
+use Rattle.clause_solver.specs.declared.watch.Entry.{Entry}
 use Rattle.clause_solver.specs.declared.watch.Pair.{Pair}
 use Rattle.clause_solver.specs.declared.watch.Watches.{Watches}
 use Rattle.clause_solver.specs.declared.work.Work.{Work}
+
+-- the clause has no other literals
+abbrev pub IsWhole : List Literal → Pair → Type 0
+IsWhole clause pair = (l : Literal) → has clause l ≡ true → (pair.one ≡ l) ⊎ (pair.two ≡ l)
 
 -- looked: the literals that were looked at since they came. Two different literals of the clause, and where one of them is false and was looked at some literal is true
 pub record IsWatched (clause : List Literal) (pair : Pair) (looked known : Known) : Type 0 where
   pub one_in : has clause pair.one ≡ true
   pub two_in : has clause pair.two ≡ true
   pub apart : pair.one ≡ pair.two → ⊥
+  pub whole : pair.is_whole ≡ true → IsWhole clause pair
   pub one : looked (flip pair.one) ≡ true → IsSatisfied known clause
   pub two : looked (flip pair.two) ≡ true → IsSatisfied known clause
 
@@ -37,10 +43,17 @@ HeldOffAtDecisions clause pair (e ∷ older) = HeldOffBefore clause pair (known_
 abbrev pub IsGuarded : List Literal → Option Pair → ℕ → List Value → Type 0
 IsGuarded clause pair looked values = HoldsOff clause pair (known_by (oldest looked values)) (known_by values) × HeldOffAtDecisions clause pair values
 
+-- the blocker of an entry is a literal of its clause
+pub record IsBlocked (clauses : List (List Literal)) (entry : Entry) : Type 0 where
+  pub clause : List Literal
+  pub found : slice_get clauses entry.place ≡ Some clause
+  pub is_in : has clause entry.blocker ≡ true
+
 pub record IsWatching (clauses : List (List Literal)) (values : List Value) (looked : ℕ) (watches : Watches) : Type 0 where
   -- each clause stands in the lists of the literals that it watches
   pub one : (k : ℕ) (pair : Pair) → pair_at watches k ≡ Some pair → IsListed watches pair.one k
   pub two : (k : ℕ) (pair : Pair) → pair_at watches k ≡ Some pair → IsListed watches pair.two k
+  pub blocked : (entry : Entry) → IsEntry watches entry → IsBlocked clauses entry
   pub guarded : (k : ℕ) (clause : List Literal) → k < count watches → slice_get clauses k ≡ Some clause → IsGuarded clause (pair_at watches k) looked values
   pub within : looked ≤ length values
   pub counted : count watches ≤ length clauses

@@ -196,8 +196,8 @@ pub fn analyse(
 {
     seen.clear();
     mark(order, seen, clauses.clause(conflict));
-    let mut clause = Vec::new(alloc);
-    let mut hints = Vec::new(alloc);
+    let mut clause = Vec::with_capacity(alloc, 64)?;
+    let mut hints = Vec::with_capacity(alloc, 64)?;
     hints.push(conflict as u32 + 1)?;
     let mut after = 0;
     let mut place = trail.len();

@@ -13,6 +13,7 @@ use crate::decide::release;
 use crate::learn::learn;
 use crate::level::next_decision;
 use crate::order::Order;
+use crate::watch::is_short;
 use crate::work::Work;
 use clause_core::lit::Lit;
 use lrat_replay::ledger::{LearnFault, Ledger};
@@ -32,7 +33,8 @@ fn settle_learned(work: &mut Work, clause: &[Lit]) -> Result<(), NoMemory>
         work.watches.pass_over()?;
         return Ok(());
     }
-    work.watches.watch(one, clause[1])?;
+    let is_whole = is_short(clause);
+    work.watches.watch(one, clause[1], is_whole)?;
     Ok(())
 }
 

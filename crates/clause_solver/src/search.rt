@@ -138,7 +138,7 @@ pub fn search<L: Ledger>(
     order.begin();
     work.trail.back(0);
     work.looked = 0;
-    work.watches = Watches::new(alloc, width)?;
+    work.watches = Watches::for_clauses(alloc, width, &work.clauses)?;
     let mut learned = 0;
     loop {
         match next_round(alloc, ledger, order, work, budget - learned)? {

@@ -49,7 +49,7 @@ fn work_of(alloc: Global, formula: &Formula) -> Result<Work, NoMemory>
         clauses: clauses_of(alloc, formula)?,
         trail: Trail::new(alloc, vars)?,
         seen: Marks::new(alloc, 2 * vars as usize + 2)?,
-        watches: Watches::new(alloc, 0)?,
+        watches: Watches::new(alloc, 0, &[])?,
         looked: 0,
     })
 }

@@ -23,8 +23,8 @@ loop-place-init c = record {
   room_is = c.mark.ensures.room ∙ c.clear.ensures.room;
   witness = λ a b v is. absurd (omega arith);
   analysis = analysis_first c.args.clauses.now c.args.trail.now.values c.len-place.ensures.fresh c.requires.reasons c.args.start c.requires.last c.requires.decided c.requires.newest c.args.conflict c.requires.conflict c.clause.result.now c.clause.ensures
-      (known_of c.mark.new.seen) c.mark.ensures.marked c.len-place.result c.len-place.ensures.count c.push.new.self.items (c.in_ok-push.ensures.items ∙ ap (λ hs. hs ++ (c.args.conflict + 1) ∷ []) c.new-hints.ensures.items)
-      c.new-clause.result.items c.new-clause.ensures.items;
+      (known_of c.mark.new.seen) c.mark.ensures.marked c.len-place.result c.len-place.ensures.count c.push.new.self.items (c.in_ok-push.ensures.items ∙ ap (λ hs. hs ++ (c.args.conflict + 1) ∷ []) c.in_ok-hints.ensures.items)
+      c.in_ok-clause.clause.items c.in_ok-clause.ensures.items;
 }
 
 pub reason_to_resolve-reason-requires-clause-known : goal.reason_to_resolve-reason-requires-clause-known
@@ -47,8 +47,8 @@ mark-requires-in-Some c =
     fits_over c.args.trail.now.vars (room c.loop-place.seen) c.clause-in-Some.result.now
     (all_over c.args.trail.now.vars c.args.clauses.now (c.in-Some.id - 1) c.clause-in-Some.result.now c.requires.over c.clause-in-Some.ensures) wide
 
-pub loop-place-preserved-in-Continue-branch-2 : goal.loop-place-preserved-in-Continue-branch-2
-loop-place-preserved-in-Continue-branch-2 c =
+pub loop-place-preserved-in-Continue-branch-4 : goal.loop-place-preserved-in-Continue-branch-4
+loop-place-preserved-in-Continue-branch-4 c =
     let k = reason_here c.args.clauses.now c.args.trail.now.values c.len-place.ensures.fresh c.requires.reasons c.args.start c.requires.last c.loop-place.place (c.loop-place.place - 1) c.value-value.result refl c.loop-place-test.true (omega (arith, c.loop-place.invariant.within)) c.value-value.ensures.is c.value-value.ensures.fresh (known_of c.loop-place.seen) c.loop-place.clause.items c.loop-place.hints.items c.loop-place.after c.loop-place.invariant.analysis c.in-Some.id (c.in-Some.ensures.resolves c.value-value.result c.value-value.ensures.is).reason in
     let place : c.in-Some.id - 1 ≡ k.place = omega (arith, k.id_is) in
     let same : k.clause ≡ c.clause-in-Some.result.now = same_at c.args.clauses.now k.place k.clause c.clause-in-Some.result.now k.found (ap (λ n. slice_get c.args.clauses.now n) (sym place) ∙ c.clause-in-Some.ensures) in
@@ -60,8 +60,8 @@ loop-place-preserved-in-Continue-branch-2 c =
           (known_of c.mark-in-Some.new.seen) c.mark-in-Some.ensures.kept (λ l m. c.mark-in-Some.ensures.marked l (subst (λ w. has w l ≡ true) same m)) c.push-in-Some.new.self.items c.in_ok-push-in-Some.ensures.items;
     }
 
-pub loop-place-preserved-in-Continue-branch-3 : goal.loop-place-preserved-in-Continue-branch-3
-loop-place-preserved-in-Continue-branch-3 c = record {
+pub loop-place-preserved-in-Continue-branch-5 : goal.loop-place-preserved-in-Continue-branch-5
+loop-place-preserved-in-Continue-branch-5 c = record {
   within = omega (arith, c.loop-place.invariant.within);
   room_is = c.loop-place.invariant.room_is;
   witness = c.reason_to_resolve-reason.ensures.known;

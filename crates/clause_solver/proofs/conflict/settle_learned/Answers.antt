@@ -35,7 +35,7 @@ pub watch-requires-clause-few : goal.watch-requires-clause-few
 watch-requires-clause-few c = let many = learned_many c.args.work.now c.args.clause.now c.requires.learning in omega (arith, c.requires.few)
 
 pub returns-clause-working : goal.returns-clause-working
-returns-clause-working c = learned_watched c.args.work.now c.args.clause.now c.requires.learning c.index-clause-0.result (learned_first c.args.work.now c.args.clause.now c.requires.learning c.index-clause-0.result c.index-clause-0.is) c.len.result c.len.ensures c.push.new.self c.in_ok-push.ensures.ok c.if-clause-eq1.false c.index-clause-1.result c.index-clause-1.is c.watch.new.self c.in_ok-watch.ensures
+returns-clause-working c = learned_watched c.args.work.now c.args.clause.now c.requires.learning c.index-clause-0.result (learned_first c.args.work.now c.args.clause.now c.requires.learning c.index-clause-0.result c.index-clause-0.is) c.len.result c.len.ensures c.push.new.self c.in_ok-push.ensures.ok c.if-clause-eq1.false c.index-clause-1.result c.index-clause-1.is c.is_short-is_whole.result c.is_short-is_whole.ensures c.watch.new.self c.in_ok-watch.ensures
 
 pub returns-clause-advanced : goal.returns-clause-advanced
 returns-clause-advanced c = learned_advanced c.args.work.now c.args.clause.now c.requires.learning c.index-clause-0.result (learned_first c.args.work.now c.args.clause.now c.requires.learning c.index-clause-0.result c.index-clause-0.is) c.len.result c.len.ensures c.push.new.self c.in_ok-push.ensures.ok c.watch.new.self

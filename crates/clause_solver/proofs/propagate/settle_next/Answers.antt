@@ -51,7 +51,7 @@ returns-in-Some-other_not_false-clause-working c =
     let w = c.requires.working in
     let clause = c.clause-clause.result.now in
     let place = c.len-place.result in
-    working_watched work w c.requires.some place c.len-place.ensures clause c.clause-clause.ensures c.in-Some.one c.in-Some-other_not_false.two c.in-Some.ensures.some.0 c.in-Some-other_not_false.ensures.some.0 c.in-Some-other_not_false.ensures.some.2 c.watch.new.self c.in_ok-watch.ensures
+    working_watched work w c.requires.some place c.len-place.ensures clause c.clause-clause.ensures c.in-Some.one c.in-Some-other_not_false.two c.is_short-is_whole.result c.is_short-is_whole.ensures c.in-Some.ensures.some.0 c.in-Some-other_not_false.ensures.some.0 c.in-Some-other_not_false.ensures.some.2 c.watch.new.self c.in_ok-watch.ensures
 
 pub has-requires : goal.has-requires
 has-requires c =

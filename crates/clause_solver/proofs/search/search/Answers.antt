@@ -49,7 +49,7 @@ loop-learned-preserved-in-Learned g c =
 pub loop-learned-init : goal.loop-learned-init
 loop-learned-init g c = record {
   within = omega arith;
-  working = working_begun (g.L.Ledger.book c.args.ledger.now) (g.L.Ledger.broken c.args.ledger.now) c.args.work.now c.requires.ready c.back.new.self c.back.ensures c.in_ok-work.field-0 (omega (arith, c.in_ok-work.ensures.width, c.vars.ensures.value)) c.in_ok-work.ensures.none;
+  working = working_begun (g.L.Ledger.book c.args.ledger.now) (g.L.Ledger.broken c.args.ledger.now) c.args.work.now c.requires.ready c.back.new.self c.back.ensures c.in_ok-work.field-0 (omega (arith, c.in_ok-work.ensures.width, c.vars.ensures.value)) c.in_ok-work.ensures.none c.in_ok-work.ensures.empty;
   goes = goes_begun (g.L.Ledger.book c.args.ledger.now) (g.L.Ledger.broken c.args.ledger.now) c.args.work.now c.requires.ready c.back.new.self c.back.ensures;
   learns = learns_none (g.L.Ledger.book c.args.ledger.now);
   many = omega arith;
