@@ -77,6 +77,41 @@ pub fn spread(on: &[u64], reached: &mut [u64], stride: usize) -> usize {
     on.len()
 }
 
+/// Goes through the cells from the last one until nothing more is reached, and says how often it went through them.
+pub fn spread_up(on: &[u64], reached: &mut [u64], stride: usize) -> usize {
+    if on.len() != reached.len() || stride < 1 || on.len() < stride {
+        return 0;
+    }
+    for round in 0..on.len() {
+        if pass_up(on, reached, stride) == Pass::Nothing {
+            return round + 1;
+        }
+        if pass_down(on, reached, stride) == Pass::Nothing {
+            return round + 1;
+        }
+    }
+    on.len()
+}
+
+/// Goes through the cells until nothing more is reached, or until one of the last cells but one row is reached at each of
+/// these assignments, and says how often it went through them.
+pub fn spread_to(on: &[u64], reached: &mut [u64], stride: usize, wanted: u64) -> usize {
+    if on.len() != reached.len() || stride < 1 || on.len() < stride {
+        return 0;
+    }
+    for round in 0..on.len() {
+        if pass_down(on, reached, stride) == Pass::Nothing
+            || wanted & !last_row(reached, stride) == 0
+        {
+            return round + 1;
+        }
+        if pass_up(on, reached, stride) == Pass::Nothing {
+            return round + 1;
+        }
+    }
+    on.len()
+}
+
 /// At which assignments one of the last cells but one row is reached.
 pub fn last_row(reached: &[u64], stride: usize) -> u64 {
     let end = reached.len().saturating_sub(stride);

@@ -1,13 +1,10 @@
 //! Changes of a cell.
 ghost use Rattle.std.specs.Prelude.{◌≤◌, ◌<◌};
 
-use crate::aim::{Aim, WORDS, word};
-use crate::sketch::{Sketch, count};
+use crate::aim::Aim;
+use crate::sketch::Sketch;
 use finder_tools::random::Random;
 use lattice_grid::control::Control;
-
-/// After how many steps two cells exchange their controls.
-const EXCHANGE: u32 = 16;
 
 /// The most assignments by which a change may be worse and stay.
 const WORSE: u32 = 3;
@@ -25,21 +22,6 @@ fn any_control(random: &mut Random, inputs: u8) -> Control {
     }
 }
 
-/// One of the assignments at which the cells are wrong.
-fn wrong_assignment(random: &mut Random, sketch: &Sketch) -> u32 {
-    let first = random.below(WORDS as u32) as usize;
-    let turn = random.below(64);
-    for step in 0..WORDS {
-        let place = first.saturating_add(step) % WORDS;
-        let bits = word(&sketch.wrong, place);
-        if bits != 0 {
-            let bit = bits.rotate_right(turn).trailing_zeros().wrapping_add(turn) % 64;
-            return (place as u32).saturating_mul(64).saturating_add(bit);
-        }
-    }
-    0
-}
-
 /// A control that has the function's value at an assignment.
 fn right_control(random: &mut Random, aim: &Aim, x: u32) -> Control {
     let is_on = aim.is_on(x);
@@ -53,60 +35,38 @@ fn right_control(random: &mut Random, aim: &Aim, x: u32) -> Control {
     }
 }
 
-/// The control that a cell gets.
-fn new_control(random: &mut Random, aim: &Aim, sketch: &Sketch) -> Control {
-    if random.below(2) == 0 {
-        any_control(random, aim.inputs)
-    } else {
-        let x = wrong_assignment(random, sketch);
-        right_control(random, aim, x)
-    }
-}
-
 /// How many halves the chance is multiplied by for each assignment more at which the cells are wrong: more in later steps.
 fn halves(step: u32, steps: u32) -> u32 {
     let part = u64::from(step).saturating_mul(6) / u64::from(steps.max(1));
     10 + part.min(5) as u32
 }
 
-/// Whether a change stays: always where the cells are wrong at no more assignments than before, and rarely else.
-fn stays(random: &mut Random, before: u32, now: u32, halves: u32) -> bool {
-    let shift = now.saturating_sub(before).saturating_mul(halves);
-    shift < 32 && random.next() & ((1u32 << shift) - 1) == 0
+/// At how many assignments more the cells may be wrong after a change: none nearly always.
+fn worse(random: &mut Random, halves: u32) -> u32 {
+    let drawn = random.next();
+    let mut more = 0u32;
+    for many in 1..=WORSE {
+        let shift = halves.saturating_mul(many);
+        if shift < 32 && drawn & ((1u32 << shift) - 1) == 0 {
+            more = many;
+        }
+    }
+    more
 }
 
-/// A cell by its number, drawn at random.
-fn any_cell(random: &mut Random, sketch: &Sketch) -> usize {
-    random.next() as usize % sketch.cells.controls.len().max(1)
-}
-
-/// Gives a cell another control, or exchanges the controls of two; takes it back where the change doesn't stay. It says how
-/// many cells were flooded.
-pub(crate) fn change(
-    random: &mut Random,
-    aim: &Aim,
-    sketch: &mut Sketch,
-    step: u32,
-    steps: u32,
-) -> u64 {
-    let cell = any_cell(random, sketch);
-    let old = sketch.control(cell);
-    let other = any_cell(random, sketch);
-    let old_other = sketch.control(other);
-    if step % EXCHANGE == EXCHANGE - 1 {
-        sketch.set(aim, cell, old_other);
-        sketch.set(aim, other, old);
+/// Gives a cell another control where the cells are then wrong at no more assignments than before, and rarely else. Half of
+/// the time both are drawn at random; else the change may mend an assignment at which the cells are wrong.
+pub(crate) fn change(random: &mut Random, aim: &Aim, sketch: &mut Sketch, step: u32, steps: u32) {
+    let more = worse(random, halves(step, steps));
+    let most = sketch.many().saturating_add(more);
+    if random.below(2) == 0 {
+        let cell = sketch.any_cell(random);
+        let control = any_control(random, aim.inputs);
+        sketch.give(aim, cell, control, most);
     } else {
-        let control = new_control(random, aim, sketch);
-        sketch.set(aim, cell, control);
+        let x = sketch.wrong_assignment(random);
+        let cell = sketch.useful_cell(random, aim, x);
+        let control = right_control(random, aim, x);
+        sketch.give(aim, cell, control, most);
     }
-    let before = count(&sketch.wrong);
-    let (wrong, work) = sketch.tested(aim, before.saturating_add(WORSE));
-    if stays(random, before, count(&wrong), halves(step, steps)) {
-        sketch.wrong = wrong;
-    } else {
-        sketch.set(aim, other, old_other);
-        sketch.set(aim, cell, old);
-    }
-    work
 }

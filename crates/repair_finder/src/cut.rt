@@ -1,7 +1,7 @@
 //! Lattices with a line less, those first that are wrong at the fewest assignments.
 use crate::aim::Aim;
 use crate::lines::{Cells, Lines, Merger, RULES};
-use crate::sketch::{Sketch, count};
+use crate::probe::Probe;
 use std::alloc::Global;
 use wire_io::fault::NoMemory;
 
@@ -12,11 +12,11 @@ pub(crate) struct Cut {
     pub(crate) cells: Cells,
 }
 
-/// The cuts of a lattice, the best ones first, and how many cells were flooded for them.
+/// The cuts of a lattice, the best ones first, of at most so many.
 #[derive(Drop)]
 pub(crate) struct Cuts {
     pub(crate) cuts: Vec<Cut>,
-    pub(crate) work: u64,
+    most: usize,
 }
 
 impl Cut {
@@ -27,8 +27,16 @@ impl Cut {
 }
 
 impl Cuts {
-    /// Puts a lattice where it belongs, and keeps so many at most.
-    fn put(&mut self, wrong: u32, cells: Cells, most: usize) -> Result<(), NoMemory> {
+    /// The most assignments at which a cut is wrong that is kept.
+    fn bound(&self) -> u32 {
+        match self.cuts.last() {
+            Some(cut) if self.cuts.len() >= self.most => cut.wrong,
+            _ => u32::MAX,
+        }
+    }
+
+    /// Puts a lattice where it belongs.
+    fn put(&mut self, wrong: u32, cells: Cells) -> Result<(), NoMemory> {
         let size = cells.controls.len();
         let mut place = 0usize;
         for cut in &self.cuts {
@@ -37,14 +45,12 @@ impl Cuts {
             }
             place = place.saturating_add(1);
         }
-        if place >= most {
+        if place >= self.most {
             return Ok(());
         }
         let place = place.min(self.cuts.len());
         self.cuts.insert(place, Cut { wrong, cells })?;
-        if self.cuts.len() > most {
-            let _last = self.cuts.pop();
-        }
+        self.cuts.truncate(self.most);
         Ok(())
     }
 
@@ -53,10 +59,10 @@ impl Cuts {
         &mut self,
         alloc: Global,
         aim: &Aim,
+        probe: &mut Probe,
         cells: &Cells,
         lines: Lines,
         number: u32,
-        most: usize,
     ) -> Result<(), NoMemory> {
         for rule in RULES {
             let merger = Merger {
@@ -68,10 +74,8 @@ impl Cuts {
             if less.controls.is_empty() {
                 return Ok(());
             }
-            let mut sketch = Sketch::new(alloc, aim, less)?;
-            let (wrong, work) = sketch.tested(aim, u32::MAX);
-            self.work = self.work.saturating_add(work);
-            self.put(count(&wrong), sketch.cells, most)?;
+            let wrong = probe.wrong(aim, &less, self.bound())?;
+            self.put(wrong, less)?;
         }
         Ok(())
     }
@@ -81,12 +85,12 @@ impl Cuts {
         &mut self,
         alloc: Global,
         aim: &Aim,
+        probe: &mut Probe,
         cells: &Cells,
         lines: Lines,
-        most: usize,
     ) -> Result<(), NoMemory> {
         for number in 0..cells.count(lines) {
-            self.add_line(alloc, aim, cells, lines, number, most)?;
+            self.add_line(alloc, aim, probe, cells, lines, number)?;
         }
         Ok(())
     }
@@ -96,14 +100,15 @@ impl Cuts {
 pub(crate) fn cuts_of(
     alloc: Global,
     aim: &Aim,
+    probe: &mut Probe,
     cells: &Cells,
     most: usize,
 ) -> Result<Cuts, NoMemory> {
     let mut cuts = Cuts {
         cuts: Vec::new(alloc),
-        work: 0,
+        most,
     };
-    cuts.add_lines(alloc, aim, cells, Lines::Columns, most)?;
-    cuts.add_lines(alloc, aim, cells, Lines::Rows, most)?;
+    cuts.add_lines(alloc, aim, probe, cells, Lines::Columns)?;
+    cuts.add_lines(alloc, aim, probe, cells, Lines::Rows)?;
     Ok(cuts)
 }

@@ -2,10 +2,13 @@
 #![tactic(auto)]
 
 mod aim;
+mod block;
 mod change;
 mod cut;
+mod folding;
 mod lines;
 mod mend;
+mod probe;
 pub mod repair;
 mod sketch;
 #[cfg(test)]

@@ -2,8 +2,10 @@
 use crate::aim::Aim;
 use crate::change::change;
 use crate::cut::{Cuts, cuts_of};
+use crate::folding::folded;
 use crate::lines::Cells;
-use crate::sketch::{Sketch, count};
+use crate::probe::Probe;
+use crate::sketch::Sketch;
 use finder_tools::random::Random;
 use std::alloc::Global;
 use wire_io::fault::NoMemory;
@@ -25,37 +27,58 @@ const ROUNDS: u32 = 12;
 /// How many times a line is taken off a lattice.
 const LINES: u32 = 2_000;
 
-/// What a change costs beside its flood.
-const CHANGE: u64 = 50;
+/// What a change costs beside its floods.
+const CHANGE: u64 = 70;
 
 /// What is left of the work, and of the numbers that are drawn.
 #[derive(Drop)]
-struct Mender {
+pub(crate) struct Mender {
     alloc: Global,
     random: Random,
+    probe: Probe,
     left: u64,
 }
 
 impl Mender {
+    /// One that has so much work to do.
+    pub(crate) fn new(alloc: Global, work: u64) -> Mender {
+        Mender {
+            alloc,
+            random: Random::new(),
+            probe: Probe::new(alloc),
+            left: work,
+        }
+    }
+
+    /// Adds to the work that is left.
+    pub(crate) fn add_work(&mut self, work: u64) {
+        self.left = self.left.saturating_add(work);
+    }
+
     /// Counts so much work.
     fn spend(&mut self, work: u64) {
-        self.left = self.left.saturating_sub(work.saturating_add(CHANGE));
+        self.left = self.left.saturating_sub(work);
+    }
+
+    /// Counts the work of tests.
+    fn spend_tests(&mut self) {
+        let work = self.probe.work;
+        self.probe.work = 0;
+        self.spend(work);
     }
 
     /// Cells that realise the function, if so many changes lead from these to such.
     fn mended(&mut self, aim: &Aim, cells: &Cells, steps: u32) -> Result<Option<Cells>, NoMemory> {
         let mut sketch = Sketch::new(self.alloc, aim, cells.copy(self.alloc)?)?;
-        let (wrong, work) = sketch.tested(aim, u32::MAX);
-        sketch.wrong = wrong;
-        self.spend(work);
         for step in 0..steps {
-            if count(&sketch.wrong) == 0 {
+            if sketch.many() == 0 {
                 return Ok(Some(sketch.cells));
             }
             if self.left == 0 {
                 return Ok(None);
             }
-            let work = change(&mut self.random, aim, &mut sketch, step, steps);
+            change(&mut self.random, aim, &mut sketch, step, steps);
+            let work = sketch.worked().saturating_add(CHANGE);
             self.spend(work);
         }
         Ok(None)
@@ -79,8 +102,8 @@ impl Mender {
 
     /// Cells of a line less that realise the function, if they are found.
     fn smaller(&mut self, aim: &Aim, cells: &Cells) -> Result<Option<Cells>, NoMemory> {
-        let cuts = cuts_of(self.alloc, aim, cells, MOST_CUTS)?;
-        self.spend(cuts.work);
+        let cuts = cuts_of(self.alloc, aim, &mut self.probe, cells, MOST_CUTS)?;
+        self.spend_tests();
         let mut tries = FIRST_CUTS;
         let mut steps = FIRST_STEPS;
         for _round in 0..ROUNDS {
@@ -95,26 +118,23 @@ impl Mender {
         }
         Ok(None)
     }
-}
 
-/// The smallest cells that are found from these by so much work.
-pub(crate) fn smallest(
-    alloc: Global,
-    aim: &Aim,
-    cells: Cells,
-    work: u64,
-) -> Result<Cells, NoMemory> {
-    let mut mender = Mender {
-        alloc,
-        random: Random::new(),
-        left: work,
-    };
-    let mut least = cells;
-    for _line in 0..LINES {
-        match mender.smaller(aim, &least)? {
-            Some(less) => least = less,
-            None => return Ok(least),
+    /// The smallest cells that are found from these by the work that is left.
+    pub(crate) fn smallest(&mut self, aim: &Aim, cells: Cells) -> Result<Cells, NoMemory> {
+        let mut least = cells;
+        for _line in 0..LINES {
+            match self.smaller(aim, &least)? {
+                Some(less) => least = less,
+                None => return Ok(least),
+            }
         }
+        Ok(least)
     }
-    Ok(least)
+
+    /// The cells with lines made one until nothing shrinks.
+    pub(crate) fn folded(&mut self, aim: &Aim, cells: Cells) -> Result<Cells, NoMemory> {
+        let least = folded(self.alloc, aim, &mut self.probe, cells)?;
+        self.spend_tests();
+        Ok(least)
+    }
 }

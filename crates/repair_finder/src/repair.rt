@@ -6,8 +6,9 @@ ghost use Rattle.finder_tools.specs.Proposed.{IsRightBelow};
 
 use crate::aim::Aim;
 use crate::lines::Cells;
-use crate::mend::smallest;
+use crate::mend::Mender;
 use cube_core::spec::Spec;
+use dual_product::dual::dual_product;
 use finder_set::finder::Finder;
 use finder_set::slot::Slot;
 use finder_tools::proposal::tested;
@@ -18,8 +19,9 @@ use std::alloc::Global;
 use std::marker::Model;
 use wire_io::fault::NoMemory;
 
-/// The most work for a function: cells flooded, each time for 64 assignments, and what a change costs beside that.
-const MOST_WORK: u64 = 250_000_000;
+/// The most work from the best lattice for a function: cells flooded, each time for 64 assignments, and what a change costs
+/// beside that.
+const MOST_WORK: u64 = 120_000_000;
 
 /// The work for each cell of the best lattice and each 64 assignments, up to the most.
 const WORK: u64 = 1_000_000;
@@ -29,9 +31,18 @@ const SMALL: u32 = 2;
 
 const LARGE: u32 = 2_000;
 
+/// From the folded dual product so many times less work is done than from the best lattice.
+const LESS: u64 = 4;
+
+/// The most cells of a dual product that is folded, and of one that is repaired once it was folded.
+const FOLDED: usize = 6_000;
+
+const REPAIRED: usize = 1_000;
+
 /// Takes a line off the best lattice so far, or makes two neighbouring ones one, in the ways in which the lattice is then wrong
 /// at the fewest assignments, and changes cells until it is right again; then goes on with that one, until nothing more is
-/// found or enough work was done. Changes are drawn at random, by a sequence that is the same in each run. It proposes the
+/// found or enough work was done. Then it does the same from the dual product, once folded, where that has not too many cells
+/// and more than the best one. Changes are drawn at random, by a sequence that is the same in each run. It proposes the
 /// smallest lattice that it finds, where that is right and smaller than the best one.
 #[derive(Drop)]
 pub struct RepairFinder {
@@ -81,11 +92,54 @@ fn grid_of(cells: Cells) -> Option<Grid> {
     Grid::new(shape, cells.controls)
 }
 
-/// How much work a best lattice of so many cells gets.
+/// How much work is done from the best lattice where it has so many cells.
 fn work_for(aim: &Aim, area: u32) -> u64 {
     WORK.saturating_mul(u64::from(area))
         .saturating_mul(aim.words() as u64)
         .min(MOST_WORK)
+}
+
+/// The cells of the folded dual product, where there are more than so many and not too many.
+fn folded_dual(
+    alloc: Global,
+    spec: &Spec,
+    aim: &Aim,
+    mender: &mut Mender,
+    fewest: usize,
+) -> Result<Option<Cells>, NoMemory> {
+    let dual = cells_of(alloc, &dual_product(alloc, spec)?)?;
+    if dual.controls.len() > FOLDED || dual.controls.len() <= fewest {
+        return Ok(None);
+    }
+    let folded = mender.folded(aim, dual)?;
+    if folded.controls.len() > REPAIRED || folded.controls.len() <= fewest {
+        return Ok(None);
+    }
+    Ok(Some(folded))
+}
+
+/// The smaller ones of two, the first ones where they are as small.
+fn smaller(first: Cells, other: Cells) -> Cells {
+    if other.controls.len() < first.controls.len() {
+        other
+    } else {
+        first
+    }
+}
+
+/// The smallest cells that are found from the best lattice and from the folded dual product.
+fn smallest(alloc: Global, spec: &Spec, best: &Grid) -> Result<Cells, NoMemory> {
+    let cells = cells_of(alloc, best)?;
+    let size = cells.controls.len();
+    let aim = Aim::of_spec(spec);
+    let work = work_for(&aim, best.shape().area());
+    let mut mender = Mender::new(alloc, work);
+    let least = mender.smallest(&aim, cells)?;
+    mender.add_work(work / LESS);
+    match folded_dual(alloc, spec, &aim, &mut mender, size)? {
+        Some(folded) => Ok(smaller(least, mender.smallest(&aim, folded)?)),
+        None => Ok(least),
+    }
 }
 
 /// The smallest lattice that is found, if it is right and smaller than the best one.
@@ -96,11 +150,8 @@ fn proposed(alloc: Global, spec: &Spec, best: &Grid) -> Result<Option<Grid>, NoM
     if area <= SMALL || area > LARGE {
         return Ok(None);
     }
-    let cells = cells_of(alloc, best)?;
-    let aim = Aim::of_spec(spec);
-    let least = smallest(alloc, &aim, cells, work_for(&aim, area))?;
     let mut marks = Marks::new(alloc, area)?;
-    match grid_of(least) {
+    match grid_of(smallest(alloc, spec, best)?) {
         Some(grid) => Ok(tested(spec, best, grid, &mut marks)),
         None => Ok(None),
     }

@@ -1,27 +1,34 @@
 //! Cells that are changed, and at which assignments they are wrong.
-ghost use Rattle.std.specs.Prelude.{◌≤◌};
-
-use crate::aim::{Aim, Bits, WORDS};
+use crate::aim::{Aim, Bits, WORDS, word};
+use crate::block::{Block, Change};
 use crate::lines::Cells;
-use finder_tools::flood::{last_row, spread};
-use finder_tools::words::on_word;
+use finder_tools::random::Random;
 use lattice_grid::control::Control;
 use std::alloc::Global;
 use wire_io::fault::NoMemory;
 
-/// Cells, the words of the assignments at which each is on as a flood asks for them, one block for each word of
-/// assignments, and at which assignments the cells are wrong.
+/// Cells, a block for each word of assignments, at which assignments the cells are wrong and at how many; and how many
+/// cells were flooded since that was asked last.
 #[derive(Drop)]
 pub(crate) struct Sketch {
     pub(crate) cells: Cells,
-    on: Vec<u64>,
-    reached: Vec<u64>,
-    block: usize,
-    pub(crate) wrong: Bits,
+    blocks: Vec<Block>,
+    wrong: Bits,
+    many: u32,
+    work: u64,
+}
+
+/// What is known of a change without a flood: where the plates are joined, where in doubt, and at how many of the other
+/// assignments the cells are wrong.
+#[derive(Clone, Copy)]
+struct Outlook {
+    joined: Bits,
+    doubt: Bits,
+    many: u32,
 }
 
 /// How many assignments these are.
-pub(crate) fn count(bits: &Bits) -> u32 {
+fn count(bits: &Bits) -> u32 {
     let mut many = 0u32;
     for word in bits {
         many = many.saturating_add(word.count_ones());
@@ -29,121 +36,182 @@ pub(crate) fn count(bits: &Bits) -> u32 {
     many
 }
 
-/// Adds so many cells that are off.
-fn add_line(on: &mut Vec<u64>, length: u32) -> Result<(), NoMemory> {
-    for _cell in 0..length {
-        on.push(0)?;
-    }
-    Ok(())
-}
-
-/// Adds the words of the cells at the assignments of the word at a place.
-fn add_block(on: &mut Vec<u64>, cells: &Cells, place: usize) -> Result<(), NoMemory> {
-    let cols = cells.cols;
-    add_line(on, cols.saturating_add(1))?;
-    let mut col = 0u32;
-    for control in &cells.controls {
-        on.push(on_word(*control, place))?;
-        col = col.saturating_add(1);
-        if col >= cols {
-            on.push(0)?;
-            col = 0;
-        }
-    }
-    add_line(on, cols.saturating_add(1))
-}
-
 impl Sketch {
     /// The cells of a lattice, to be changed.
     pub(crate) fn new(alloc: Global, aim: &Aim, cells: Cells) -> Result<Sketch, NoMemory> {
-        let mut on = Vec::new(alloc);
-        let mut block = 0;
-        for place in 0..aim.words() {
-            add_block(&mut on, &cells, place)?;
-            if place == 0 {
-                block = on.len();
-            }
-        }
-        let mut reached = Vec::new(alloc);
-        for _cell in 0..block {
-            reached.push(0)?;
+        let mut blocks = Vec::new(alloc);
+        let mut wrong = [0u64; 16];
+        let mut work = 0u64;
+        for place in 0..aim.words().min(WORDS) {
+            let mut block = Block::new(alloc, &cells, place)?;
+            let settled = block.settle();
+            wrong[place] = aim.wrong(place, settled.joined);
+            work = work.saturating_add(settled.work);
+            blocks.push(block)?;
         }
         Ok(Sketch {
             cells,
-            on,
-            reached,
-            block,
-            wrong: [0u64; 16],
+            blocks,
+            wrong,
+            many: count(&wrong),
+            work,
         })
     }
 
-    /// Sets a flood up: the first cells are reached, the others not.
-    fn dry(&mut self) {
-        let cols = self.cells.cols as usize;
-        let mut index = 0usize;
-        for word in self.reached.iter_mut() {
-            *word = if index < cols { u64::MAX } else { 0 };
-            index = index.saturating_add(1);
-        }
+    /// At how many assignments the cells are wrong.
+    pub(crate) fn many(&self) -> u32 {
+        self.many
     }
 
-    /// At which assignments of the word at a place the cells join their plates, and how many cells were flooded for it.
-    fn joined(&mut self, place: usize) -> (u64, u64) {
-        self.dry();
-        let start = place.saturating_mul(self.block);
-        let end = start.saturating_add(self.block);
-        let stride = (self.cells.cols as usize).saturating_add(1);
-        if end > self.on.len() || start > end {
-            return (0, 0);
-        }
-        let rounds = spread(&self.on[start..end], &mut self.reached, stride);
-        let work = (rounds as u64).saturating_mul(self.block as u64);
-        (last_row(&self.reached, stride), work)
-    }
-
-    /// At which assignments the cells are wrong, as soon as they are wrong at more than so many, and how many cells were
-    /// flooded for it.
-    pub(crate) fn tested(&mut self, aim: &Aim, most: u32) -> (Bits, u64) {
-        let mut wrong = [0u64; 16];
-        let mut many = 0u32;
-        let mut work = 0u64;
-        for place in 0..aim.words().min(WORDS) {
-            let (joined, flooded) = self.joined(place);
-            let word = aim.wrong(place, joined);
-            wrong[place] = word;
-            many = many.saturating_add(word.count_ones());
-            work = work.saturating_add(flooded);
-            if many > most {
-                return (wrong, work);
-            }
-        }
-        (wrong, work)
+    /// How many cells were flooded since this was asked last.
+    pub(crate) fn worked(&mut self) -> u64 {
+        let work = self.work;
+        self.work = 0;
+        work
     }
 
     /// The control of a cell, and `0` where there is none.
-    pub(crate) fn control(&self, cell: usize) -> Control {
+    fn control(&self, cell: usize) -> Control {
         match self.cells.controls.get(cell) {
             Some(control) => *control,
             None => Control::Zero,
         }
     }
 
-    /// Gives a cell a control.
-    pub(crate) fn set(&mut self, aim: &Aim, cell: usize, control: Control) {
-        if cell >= self.cells.controls.len() {
-            return;
+    /// Gives a cell a control, where there is one with this number.
+    fn put(&mut self, cell: usize, control: Control) {
+        if let Some(old) = self.cells.controls.get_mut(cell) {
+            *old = control;
         }
-        self.cells.controls[cell] = control;
+    }
+
+    /// Where a cell stands among the words of a block.
+    fn offset(&self, cell: usize) -> usize {
         let cols = (self.cells.cols as usize).max(1);
         let line = (cell / cols).saturating_add(1);
-        let offset = line
-            .saturating_mul(cols.saturating_add(1))
-            .saturating_add(cell % cols);
-        for place in 0..aim.words() {
-            let index = place.saturating_mul(self.block).saturating_add(offset);
-            if let Some(word) = self.on.get_mut(index) {
-                *word = on_word(control, place);
+        line.saturating_mul(cols.saturating_add(1))
+            .saturating_add(cell % cols)
+    }
+
+    /// What is known of a change without a flood, unless the cells are then wrong at more than so many assignments.
+    fn outlook(&self, aim: &Aim, change: Change, most: u32) -> Option<Outlook> {
+        let mut outlook = Outlook {
+            joined: [0u64; 16],
+            doubt: [0u64; 16],
+            many: 0,
+        };
+        for place in 0..WORDS {
+            let Some(block) = self.blocks.get(place) else {
+                return Some(outlook);
+            };
+            let look = block.look(change);
+            outlook.joined[place] = look.joined;
+            outlook.doubt[place] = look.doubt;
+            let wrong = aim.wrong(place, look.joined) & !look.doubt;
+            outlook.many = outlook.many.saturating_add(wrong.count_ones());
+            if outlook.many > most {
+                return None;
             }
         }
+        Some(outlook)
+    }
+
+    /// At which assignments of the word at a place the plates are joined after a change.
+    fn joined(&mut self, place: usize, change: Change, outlook: &Outlook) -> u64 {
+        let doubt = word(&outlook.doubt, place);
+        let joined = word(&outlook.joined, place);
+        match self.blocks.get_mut(place) {
+            Some(block) if doubt != 0 => {
+                let kept = block.kept(change, doubt);
+                self.work = self.work.saturating_add(kept.work);
+                (joined & !doubt) | kept.joined
+            }
+            _ => joined,
+        }
+    }
+
+    /// At which assignments the plates are joined after a change, unless the cells are then wrong at more than so many.
+    fn settled(&mut self, aim: &Aim, change: Change, outlook: &Outlook, most: u32) -> Option<Bits> {
+        let mut joined = [0u64; 16];
+        let mut many = outlook.many;
+        for place in 0..WORDS {
+            let now = self.joined(place, change, outlook);
+            joined[place] = now;
+            let wrong = aim.wrong(place, now) & word(&outlook.doubt, place);
+            many = many.saturating_add(wrong.count_ones());
+            if many > most {
+                return None;
+            }
+        }
+        Some(joined)
+    }
+
+    /// Makes a change, after which the plates are joined at these assignments.
+    fn take(&mut self, aim: &Aim, change: Change, joined: &Bits) {
+        for place in 0..WORDS {
+            if let Some(block) = self.blocks.get_mut(place) {
+                let work = block.take(change, joined[place]);
+                self.work = self.work.saturating_add(work);
+                self.wrong[place] = aim.wrong(place, joined[place]);
+            }
+        }
+        self.many = count(&self.wrong);
+    }
+
+    /// Gives a cell a control, unless the cells are then wrong at more than so many assignments.
+    pub(crate) fn give(&mut self, aim: &Aim, cell: usize, control: Control, most: u32) {
+        let old = self.control(cell);
+        if old == control {
+            return;
+        }
+        let change = Change {
+            offset: self.offset(cell),
+            old,
+            new: control,
+        };
+        let Some(outlook) = self.outlook(aim, change, most) else {
+            return;
+        };
+        if let Some(joined) = self.settled(aim, change, &outlook, most) {
+            self.put(cell, control);
+            self.take(aim, change, &joined);
+        }
+    }
+
+    /// One of the assignments at which the cells are wrong.
+    pub(crate) fn wrong_assignment(&self, random: &mut Random) -> u32 {
+        let first = random.below(WORDS as u32) as usize;
+        let turn = random.below(64);
+        for step in 0..WORDS {
+            let place = first.saturating_add(step) % WORDS;
+            let bits = word(&self.wrong, place);
+            if bits != 0 {
+                let bit = bits.rotate_right(turn).trailing_zeros().wrapping_add(turn) % 64;
+                return (place as u32).saturating_mul(64).saturating_add(bit);
+            }
+        }
+        0
+    }
+
+    /// A cell by its number, drawn at random.
+    pub(crate) fn any_cell(&self, random: &mut Random) -> usize {
+        random.next() as usize % self.cells.controls.len().max(1)
+    }
+
+    /// A cell of which another control may mend an assignment: the first one from one that is drawn at random.
+    pub(crate) fn useful_cell(&self, random: &mut Random, aim: &Aim, x: u32) -> usize {
+        let first = self.any_cell(random);
+        let Some(block) = self.blocks.get((x / 64) as usize) else {
+            return first;
+        };
+        let bit = 1u64 << (x % 64);
+        let mut cell = first;
+        for _cell in 0..self.cells.controls.len() {
+            if block.may_mend(self.offset(cell), bit, aim.is_on(x)) {
+                return cell;
+            }
+            cell = cell.saturating_add(1) % self.cells.controls.len().max(1);
+        }
+        first
     }
 }

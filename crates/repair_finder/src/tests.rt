@@ -4,6 +4,7 @@ use crate::repair::RepairFinder;
 use cube_core::assign::{ASSIGNMENTS, Assign};
 use cube_core::spec::Spec;
 use cube_core::table::Table;
+use dual_product::dual::dual_product;
 use finder_set::finder::Finder;
 use finder_set::fold::Fold;
 use finder_set::improve::improve;
@@ -25,6 +26,32 @@ fn symmetric(inputs: u8, counts: u32) -> Option<Spec>
     }
     let off = on.complement(inputs);
     Spec::new(inputs, on, off)
+}
+
+/// 1 where two numbers of two bits add up to four or more.
+fn carry() -> Option<Spec> {
+    let mut on = Table::empty();
+    for number in 0..16u16 {
+        if number % 4 + number / 4 >= 4 {
+            on.add(Assign::new(number)?);
+        }
+    }
+    let off = on.complement(4);
+    Spec::new(4, on, off)
+}
+
+/// How many cells are left of the dual product once it was mended, where the finder was not dropped.
+fn mended(alloc: Global, spec: &Spec) -> Result<Option<u32>, NoMemory> {
+    let best = dual_product(alloc, spec)?;
+    let mut marks = Marks::new(alloc, best.shape().area())?;
+    let mut finders: Vec<Box<dyn Finder>> = Vec::new(alloc);
+    finders.push(Box::new(alloc, RepairFinder::new(alloc))?)?;
+    let improved = improve(alloc, &mut finders, spec, best, &mut marks)?;
+    if improved.dropped.is_empty() {
+        Ok(Some(improved.grid.shape().area()))
+    } else {
+        Ok(None)
+    }
 }
 
 /// How many cells are left of the pairs lattice once it was folded and mended, where no finder was dropped.
@@ -57,6 +84,32 @@ fn a_majority_of_three(rt: HostRuntime) -> Result<(), Fail> {
     let spec = symmetric(3, 0b1100).ok_or("a function")?;
     let cells = area(rt.alloc(), &spec)?.ok_or("a finder")?;
     assert!(rt; cells < 9, "{cells}");
+    Ok(())
+}
+
+// The dual product has 15 cells for the carry, 64 for the exclusive or of four inputs and 100 for three of five.
+
+#[test]
+fn the_carry_of_two_bits_and_two(rt: HostRuntime) -> Result<(), Fail> {
+    let spec = carry().ok_or("a function")?;
+    let cells = mended(rt.alloc(), &spec)?.ok_or("a finder")?;
+    assert!(rt; cells <= 6, "{cells}");
+    Ok(())
+}
+
+#[test]
+fn the_exclusive_or_of_four_inputs(rt: HostRuntime) -> Result<(), Fail> {
+    let spec = symmetric(4, 0b01010).ok_or("a function")?;
+    let cells = mended(rt.alloc(), &spec)?.ok_or("a finder")?;
+    assert!(rt; cells <= 20, "{cells}");
+    Ok(())
+}
+
+#[test]
+fn three_of_five(rt: HostRuntime) -> Result<(), Fail> {
+    let spec = symmetric(5, 0b111000).ok_or("a function")?;
+    let cells = mended(rt.alloc(), &spec)?.ok_or("a finder")?;
+    assert!(rt; cells <= 20, "{cells}");
     Ok(())
 }
 
