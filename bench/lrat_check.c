@@ -1,12 +1,36 @@
 /* A small plain checker of LRAT steps without deletions, to compare with: the CNF on the standard input, the steps in
-   a file. It prints `verified` where each step is accepted and one is empty. */
+   a file. Each text is read whole, and its numbers are parsed by hand. It prints `verified` where each step is accepted
+   and one is empty. */
 #include <stdio.h>
 #include <stdlib.h>
+#include <string.h>
 
-static long next_number(FILE *in, int *ok) {
-    long value;
-    *ok = fscanf(in, "%ld", &value) == 1;
-    return value;
+struct text {
+    const char *at, *end;
+};
+
+static struct text read_whole(FILE *in) {
+    size_t size = 0, room = 1 << 16;
+    char *bytes = malloc(room);
+    for (size_t got; bytes && (got = fread(bytes + size, 1, room - size, in)) > 0;) {
+        size += got;
+        if (size == room) bytes = realloc(bytes, room *= 2);
+    }
+    if (!bytes) exit(3);
+    return (struct text){bytes, bytes + size};
+}
+
+static long next_number(struct text *in, int *ok) {
+    const char *p = in->at;
+    while (p < in->end && (*p == ' ' || *p == '\n' || *p == '\r' || *p == '\t')) p++;
+    int negative = p < in->end && *p == '-';
+    p += negative;
+    const char *first = p;
+    long value = 0;
+    while (p < in->end && *p >= '0' && *p <= '9' && p - first < 10) value = 10 * value + (*p++ - '0');
+    in->at = p;
+    *ok = p > first;
+    return negative ? -value : value;
 }
 
 static int *lits;
@@ -26,33 +50,39 @@ static void begin_clause(void) {
 }
 
 int main(int argc, char **argv) {
-    long vars, count;
+    static const char head[] = "p cnf";
     int ok;
-    if (argc != 2 || scanf("p cnf %ld %ld", &vars, &count) != 2) return 2;
+    if (argc != 2) return 2;
+    struct text cnf = read_whole(stdin);
+    if ((size_t)(cnf.end - cnf.at) < sizeof head - 1 || memcmp(cnf.at, head, sizeof head - 1)) return 2;
+    cnf.at += sizeof head - 1;
+    long vars = next_number(&cnf, &ok), count = next_number(&cnf, &ok);
+    if (!ok) return 2;
     for (long i = 0; i < count; i++) {
         begin_clause();
-        for (long lit; (lit = next_number(stdin, &ok)) != 0 && ok;) push_lit((int)lit);
+        for (long lit; (lit = next_number(&cnf, &ok)) != 0 && ok;) push_lit((int)lit);
         begins[clauses] = used;
     }
     unsigned *stamps = calloc(2 * vars + 2, sizeof *stamps);
     unsigned round = 0;
-    FILE *in = fopen(argv[1], "r");
-    if (!in) return 3;
+    FILE *file = fopen(argv[1], "r");
+    if (!file) return 3;
+    struct text in = read_whole(file);
     int reached = 0;
     for (;;) {
-        long id = next_number(in, &ok);
+        long id = next_number(&in, &ok);
         if (!ok) break;
         if (id != (long)clauses + 1) return 8;
         begin_clause();
         round++;
-        for (long lit; (lit = next_number(in, &ok)) != 0 && ok;) {
+        for (long lit; (lit = next_number(&in, &ok)) != 0 && ok;) {
             push_lit((int)lit);
             stamps[lit > 0 ? 2 * lit + 1 : -2 * lit] = round;
         }
         begins[clauses] = used;
         if (begins[clauses] == begins[clauses - 1]) reached = 1;
         int done = 0;
-        for (long hint; (hint = next_number(in, &ok)) != 0 && ok;) {
+        for (long hint; (hint = next_number(&in, &ok)) != 0 && ok;) {
             if (done) continue;
             if (hint < 1 || hint >= id) return 8;
             int open = 0, unit = 0;

@@ -1,9 +1,10 @@
-"""Conflicts a second of the program's solver beside those of minisat (Debian's package, `-no-pre`), on the same formulas.
+"""Conflicts and propagations a second of the program's solver beside those of minisat (Debian's package, `-no-pre`), on the same formulas.
 
 usage: solver.py PROGRAM FOLDER CIRCUIT.OUTPUT:ROWSxCOLS ..
 
 `map` with an array of sound switches asks one question, whose formula `cnf` writes for minisat. Our conflicts are the step lines of the journal, and our time is that of the run less that of
-a run without conflicts; each step is replayed and written in it. The program does not count its propagations; those of minisat are told beside its conflicts."""
+a run without conflicts; each step is replayed and written in it. The program does not count its propagations: valgrind's callgrind counts the calls of LOOK, one for each value that is looked at, in a run
+of the same words (a minute each), as minisat counts them."""
 
 import os
 import re
@@ -12,6 +13,7 @@ import sys
 from reports import timed
 
 ASKED = 20_000
+LOOK = "clause_solver::propagate::look_at_next"
 
 
 def steps(journal):
@@ -24,6 +26,20 @@ def asked(program, journal, text, output, conflicts):
     """The status of the question, its steps, and its processor time."""
     status, _, spent = timed([program, "map", "--conflicts", str(conflicts), "--output", output, journal], text)
     return status, steps(journal), spent
+
+
+def looks(program, folder, words, text):
+    """How many values a run looks at."""
+    counted = os.path.join(folder, "solver.calls")
+    timed(["valgrind", "--tool=callgrind", "--compress-strings=no", f"--callgrind-out-file={counted}", program] + words, text)
+    calls = found = 0
+    with open(counted, encoding="utf-8") as lines:
+        for line in lines:
+            if line.startswith("cfn="):
+                found = LOOK in line
+            elif line.startswith("calls=") and found:
+                calls += int(line[len("calls="):].split()[0])
+    return calls
 
 
 def minisat(formula):
@@ -49,9 +65,12 @@ def measure(program, folder, place):
     with open(formula, "w", encoding="ascii") as out:
         out.write(made)
     said, theirs, rate, propagations = minisat(formula)
-    ours = conflicts / max(spent - begun, 0.01)
-    return (f"{place}: status {status}, {conflicts} conflicts, {ours:.0f} a second; "
-            f"minisat {said}, {theirs} conflicts, {rate} a second (ratio {ours / rate:.2f}), {propagations / 1e6:.2f} million propagations a second")
+    seconds = max(spent - begun, 0.01)
+    ours = conflicts / seconds
+    looked = looks(program, folder, ["map", "--conflicts", str(ASKED), "--output", output, journal], array) / seconds
+    return (f"{place}: status {status}, {conflicts} conflicts, {ours:.0f} a second, {looked / 1e6:.2f} million propagations a second; "
+            f"minisat {said}, {theirs} conflicts, {rate} a second (ratio {ours / rate:.2f}), "
+            f"{propagations / 1e6:.2f} million propagations a second (ratio {looked / propagations:.2f})")
 
 
 def main():

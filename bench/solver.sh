@@ -1,5 +1,5 @@
 #!/bin/sh
-# Conflicts a second of the program's solver beside those of minisat (Debian's package), on the same formulas.
+# Conflicts and propagations a second of the program's solver beside those of minisat (Debian's package), on the same formulas.
 # usage: bench/solver.sh PROGRAM FOLDER    (PROGRAM is crates/lattice/out/lattice after `rt run` in crates/lattice)
 . "$(dirname "$0")/common.sh"
 python3 "$here/make_circuits.py" "$folder"
