@@ -1,12 +1,16 @@
 #!/bin/sh
-# Times `check` on a proof of many steps, beside a small C checker of the same format.
-# usage: bench/check.sh PROGRAM FOLDER [CHAINS LENGTH]
+# Times `check` on a proof of many short steps and on a section of a journal, beside a small C checker of the same format.
+# usage: bench/check.sh PROGRAM FOLDER [CHAINS LENGTH]    (PROGRAM is crates/lattice/out/lattice after `rt run` in crates/lattice)
 . "$(dirname "$0")/common.sh"
-python3 "$here/make_proof.py" "$folder" "${3:-200}" "${4:-2000}"
 cc -O2 -o "$folder/lrat_check" "$here/lrat_check.c"
-echo "cnf $(wc -c <"$folder/chains.cnf") bytes, lrat $(wc -c <"$folder/chains.lrat") bytes, $(wc -l <"$folder/chains.lrat") steps"
-for _ in 1 2 3; do
-    for run in "$program check $folder/chains.lrat" "$folder/lrat_check $folder/chains.lrat"; do
-        /usr/bin/env time -f "  %e s, %M KB at most: ${run%% *}" sh -c "exec $run" <"$folder/chains.cnf"
-    done
+python3 "$here/make_proof.py" "$folder" "${3:-200}" "${4:-2000}"
+python3 "$here/make_circuits.py" "$folder/circuits"
+"$program" synth --conflicts 60000 --output 2 "$folder/section.journal" <"$folder/circuits/multiplier3.pla" >"$folder/section.report" || test $? = 7
+python3 "$here/section.py" "$program" "$folder/circuits/multiplier3.pla" "$folder/section.journal" "$folder/section"
+for name in chains section; do
+    echo "$name: cnf $(wc -c <"$folder/$name.cnf") bytes, lrat $(wc -c <"$folder/$name.lrat") bytes, $(wc -l <"$folder/$name.lrat") steps"
+    "$program" check "$folder/$name.lrat" <"$folder/$name.cnf"
+    "$folder/lrat_check" "$folder/$name.lrat" <"$folder/$name.cnf"
+    echo "  check      $(least_of 5 "$folder/$name.cnf" check "$folder/$name.lrat")"
+    echo "  lrat_check $(least 5 sh -c "exec $folder/lrat_check $folder/$name.lrat <$folder/$name.cnf")"
 done
