@@ -30,8 +30,7 @@ use Rattle.area_search.specs.declared.fault.SearchFault.{SearchFault}
 use Rattle.area_search.specs.declared.fault.SearchFault.TheVariants.{Sink, NoMemory}
 use Rattle.area_search.specs.declared.progress.Progress.{Progress}
 use Rattle.lattice_question.specs.declared.question.Outcome.TheVariants as outcome
-use Rattle.lattice_question.proofs.Sections.{shows_close, stopped_held as held_asking}
-use Rattle.lattice_question.proofs.Fronts.{gains_then, gains_nothing, front_then, front_of_all, told_later, parts_push, parts_joined}
+use Rattle.lattice_question.proofs.Tools.{shows_close, stopped_held as held_asking, gains_then, gains_nothing, front_then, front_of_all, told_later, parts_push, parts_joined}
 
 -- ---- what a longer list holds
 

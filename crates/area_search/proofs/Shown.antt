@@ -18,7 +18,7 @@ use Rattle.area_search.specs.Answer.{IsLeast, HoldsOfLattices}
 use Rattle.lattice_question.specs.Asked.{IsExcluded}
 use Rattle.area_search.specs.Progress.{IsKnown, IsSpentOpen, AreShowing, HasWritten, EndedSo, answer_of}
 use Rattle.lattice_question.specs.Written.{IsSectionOf, HasNoSection, IsShown, Searched}
-use Rattle.lattice_question.proofs.Fronts.{gains_nothing}
+use Rattle.lattice_question.proofs.Tools.{gains_nothing}
 use Rattle.area_search.specs.declared.progress.Progress.{Progress}
 
 -- the member that holds a shape

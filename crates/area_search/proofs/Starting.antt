@@ -13,10 +13,10 @@ use Rattle.lattice_grid.specs.Start.{pairs_over, start_between, IsLackingFinal}
 use Rattle.lattice_grid.specs.Rails.{IsFull, literals_of}
 use Rattle.finder_set.specs.Finders.{AreAsked}
 use Rattle.finder_set.specs.declared.improve.Dropped.{Dropped}
-use Rattle.finder_set.proofs.Wider.{AreAsked-wider}
+use Rattle.finder_set.proofs.Tools.{AreAsked-wider}
 use Rattle.area_search.specs.Answer.{AreUsed}
 use Rattle.dual_product.specs.Dual.{dual_of}
-use Rattle.dual_product.proofs.DualLaws.{dual_of-none, dual_of-all}
+use Rattle.dual_product.proofs.Tools.{dual_of-none, dual_of-all}
 use Rattle.journal_text.specs.Least.{area, IsRight, IsStart, IsNoLarger}
 
 rising_none : (n : ℕ) → rising n set.empty ≡ []

@@ -7,7 +7,7 @@ use Rattle.std.proofs.lemmas.List.Elements.{All-take, All-contains, Contains-app
 use Rattle.std.proofs.lemmas.Option.{slice_get_within, get_or_from_slice_get}
 use Rattle.cube_core.specs.Function.{Function, IsFunction}
 use Rattle.dual_product.specs.Dual.{dual_of}
-use Rattle.lrat_replay.proofs.Sound.{Contains-head}
+use Rattle.lrat_replay.proofs.Tools.{Contains-head}
 use Rattle.lattice_grid.specs.Defects.{Defects}
 use Rattle.lattice_grid.specs.Lattice.{Lattice}
 use Rattle.lattice_grid.specs.Rails.{IsOverRails}

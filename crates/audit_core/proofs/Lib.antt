@@ -4,7 +4,7 @@ mod SoughtLaws
 mod AskedLaws
 mod ListLaws
 mod SameLaws
-pub mod RefusalLaws
+mod RefusalLaws
 mod ReplayLaws
 mod NameLaws
 mod AnswerLaws
@@ -14,3 +14,4 @@ mod RenewLaws
 mod RenewedLaws
 mod WrittenLaws
 mod TextLaws
+pub mod Tools

@@ -6,7 +6,7 @@ use Rattle.std.proofs.lemmas.List.{append-nil, length-map, drop_all, get_or-map,
 use Rattle.std.proofs.lemmas.List.Elements.{All-append, All-cons, All-head, All-tail, All-nil}
 use Rattle.lattice_grid.specs.Defects.{Defects}
 use Rattle.lattice_grid.specs.Rectangle.{Size}
-use Rattle.lrat_replay.proofs.Sound.{Contains-head, Contains-cases}
+use Rattle.lrat_replay.proofs.Tools.{Contains-head, Contains-cases}
 use Rattle.report_text.specs.Report.{BlockParts}
 use Rattle.report_text.specs.declared.answer.Answer.{Answer}
 use Rattle.report_text.specs.declared.answer.Answer.TheVariants as answers

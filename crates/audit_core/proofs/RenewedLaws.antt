@@ -7,11 +7,11 @@ use Rattle.std.proofs.lemmas.Bool.{false≢true}
 use Rattle.std.proofs.lemmas.List.Elements.{All-cons, All-head, All-tail, All-nil}
 use Rattle.clause_core.specs.Cnf.{literals_text}
 use Rattle.cube_core.specs.Function.{Function}
-use Rattle.lrat_replay.proofs.Sound.{Contains-head}
+use Rattle.lrat_replay.proofs.Tools.{Contains-head}
 use Rattle.lrat_replay.specs.LratText.{step_text, id_text, end_text, hints_text}
 use Rattle.lrat_replay.specs.declared.line.Step.{Step}
 use Rattle.pla_reader.specs.Parts.{Parts}
-use Rattle.report_text.proofs.WordLaws.{size_of_array}
+use Rattle.report_text.proofs.Tools.{size_of_array}
 use Rattle.report_text.specs.Bounds.{IsBlock, IsProof, AreRails}
 use Rattle.report_text.specs.Report.{BlockParts}
 use Rattle.report_text.specs.declared.answer.Answer.{Answer}

@@ -4,7 +4,7 @@ use Rattle.std.specs.Prelude.{slice_get}
 use Rattle.std.specs.List.{Contains}
 use Rattle.std.specs.declared.option.Option.{Option}
 use Rattle.cube_core.specs.Function.{Function}
-use Rattle.lrat_replay.proofs.Sound.{Contains-head, Contains-cases}
+use Rattle.lrat_replay.proofs.Tools.{Contains-head, Contains-cases}
 use Rattle.lrat_replay.specs.Book.{Accepts, start}
 use Rattle.lrat_replay.specs.Learned.{SpentWritten}
 use Rattle.lrat_replay.specs.declared.line.LineKind.TheVariants.{Add}

@@ -10,8 +10,7 @@ use Rattle.journal_text.specs.Parts.{Section, Part, Question, Answered, JournalP
 use Rattle.journal_text.specs.Bounds.{IsPart, IsJournal}
 use Rattle.journal_text.specs.Text.{part_text, parts_text, front_text, head_text, section_text, question_text, steps_text, close_text, journal_text}
 use Rattle.journal_text.specs.Reading.Next.{PartOrEnd}
-use Rattle.journal_text.proofs.RunLaws.Item.{QuestionItem, AnswerItem}
-use Rattle.journal_text.proofs.VerdictLaws.{item_some}
+use Rattle.journal_text.proofs.Tools.{QuestionItem, AnswerItem, item_some}
 use Rattle.journal_text.specs.declared.journal.Part.{Part as PartRead}
 use Rattle.journal_text.specs.declared.target.Close.TheVariants.{Refuted}
 use Rattle.report_text.specs.declared.answer.Version.{Version}

@@ -7,7 +7,7 @@ use Rattle.std.proofs.lemmas.List.{take_more, take-append-drop, map-append}
 use Rattle.std.proofs.lemmas.List.Elements.{Contains-append_right}
 use Rattle.clause_core.specs.Formula.{Formula}
 use Rattle.clause_core.specs.Literal.{Literal}
-use Rattle.lrat_replay.proofs.Sound.{Contains-head, Contains-cases}
+use Rattle.lrat_replay.proofs.Tools.{Contains-head, Contains-cases}
 use Rattle.lrat_replay.specs.Book.{Book, Numbered, Accepts, addition_fault, after_addition, line_fault, after_line, after_lines, start, is_empty, some_empty}
 use Rattle.lrat_replay.specs.Learned.{AreWrittenNew}
 use Rattle.lrat_replay.specs.New.{IsNew}

@@ -15,7 +15,7 @@ use Rattle.journal_text.specs.declared.journal.Part.{Part as PartRead}
 use Rattle.journal_text.specs.declared.reader.Reader.{Reader}
 use Rattle.journal_text.specs.declared.refusal.JournalRefusal.{JournalRefusal}
 use Rattle.journal_text.specs.declared.refusal.JournalRefusal.TheVariants as forms
-use Rattle.journal_text.proofs.CursorLaws.{IsReading, IsTextOf, reading_begun, reading_more, reading_room, reading_refused, reading_all, reading_join}
+use Rattle.journal_text.proofs.Tools.{IsReading, IsTextOf, reading_begun, reading_more, reading_room, reading_refused, reading_all, reading_join}
 use Rattle.report_text.specs.declared.answer.Version.{Version}
 use Rattle.audit_core.specs.Audit.{Basis, AreRight, IsKindRefused, HasRefused}
 use Rattle.audit_core.specs.Seen.{IsSeen}

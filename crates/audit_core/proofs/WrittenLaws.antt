@@ -6,7 +6,7 @@ use Rattle.std.proofs.lemmas.List.{append-nil}
 use Rattle.std.proofs.lemmas.List.Elements.{All-head, All-tail, All-contains, Contains-append_right}
 use Rattle.std.proofs.lemmas.Option.{slice_get_within, get_or_from_slice_get}
 use Rattle.cube_core.specs.Function.{Function}
-use Rattle.lrat_replay.proofs.Sound.{Contains-head, Contains-cases}
+use Rattle.lrat_replay.proofs.Tools.{Contains-head, Contains-cases}
 use Rattle.lrat_replay.specs.Book.{Book, Accepts, after_addition, start}
 use Rattle.lrat_replay.specs.Learned.{AreWrittenNew}
 use Rattle.lrat_replay.specs.declared.line.LineKind.{LineKind}

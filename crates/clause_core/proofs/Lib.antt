@@ -1,10 +1,11 @@
-pub mod Literals
-pub mod PiecesLaws
-pub mod BatchLaws
-pub mod WriteLaws
-pub mod TextLaws
-pub mod DraftLaws
-pub mod ReadLaws
-pub mod NumberLaws
-pub mod PrintedLaws
-pub mod RoundTrip
+mod Literals
+mod PiecesLaws
+mod BatchLaws
+mod WriteLaws
+mod TextLaws
+mod DraftLaws
+mod ReadLaws
+mod NumberLaws
+mod PrintedLaws
+mod RoundTrip
+pub mod Tools

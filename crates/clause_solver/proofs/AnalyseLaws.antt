@@ -7,10 +7,10 @@ use Rattle.std.proofs.lemmas.List.Elements.{All-push, All-from_recursion, recurs
 use Rattle.clause_solver.proofs.Levels.{oldest-all, oldest-none}
 use Rattle.std.proofs.lemmas.Bool.{or_cases, both_ways, true≢false}
 use Rattle.clause_core.specs.Literal.{Literal, flip, same, has}
-use Rattle.clause_core.proofs.Literals.{flip-flip, same-true, same-flip, same-at}
+use Rattle.clause_core.proofs.Tools.{flip-flip, same-true, same-flip, same-at}
 use Rattle.lrat_replay.specs.Status.{Known, IsConflict}
 use Rattle.lrat_replay.specs.Book.{run, Accepted, denied}
-use Rattle.lrat_replay.proofs.Runs.{IsConsistent, IsWithin}
+use Rattle.lrat_replay.proofs.Tools.{IsConsistent, IsWithin}
 use Rattle.clause_solver.specs.Trail.{known_by, IsFresh, AreFresh, oldest}
 use Rattle.clause_solver.specs.Plain.{at_of, IsReason, HasReason, HaveReasons}
 use Rattle.clause_solver.specs.Analysis.{IsReduced}

@@ -4,7 +4,7 @@ use Rattle.std.specs.Prelude.{slice_get}
 use Rattle.std.proofs.lemmas.Bool.{both_ways, true≢false}
 use Rattle.clause_core.specs.Literal.{Literal, flip, has}
 use Rattle.lrat_replay.specs.Status.{Known, Rests, IsConflict}
-use Rattle.lrat_replay.proofs.Runs.{IsConsistent}
+use Rattle.lrat_replay.proofs.Tools.{IsConsistent}
 use Rattle.clause_solver.specs.Trail.{known_by, oldest, before_last, has_decision, IsFresh, AreFresh}
 use Rattle.clause_solver.specs.Plain.{at_of, AllRest, IsReason, IsConflictAt, HasReason, HaveReasons}
 use Rattle.clause_solver.specs.Analysis.{IsReduced, IsSought, MayResolve, MayKeep, IsAsserting, IsAnchor, IsLed}

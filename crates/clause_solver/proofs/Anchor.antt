@@ -4,7 +4,7 @@ use Rattle.std.specs.Prelude.{slice_get}
 use Rattle.std.proofs.lemmas.Bool.{both_ways}
 use Rattle.std.proofs.lemmas.List.{length-append}
 use Rattle.clause_core.specs.Literal.{Literal, flip, has}
-use Rattle.clause_core.proofs.Literals.{flip-flip, has-first}
+use Rattle.clause_core.proofs.Tools.{flip-flip, has-first}
 use Rattle.clause_solver.specs.Trail.{known_by, oldest, IsFresh}
 use Rattle.clause_solver.specs.Analysis.{IsSecond, IsAnchor}
 use Rattle.clause_solver.specs.declared.value.Value.{Value}

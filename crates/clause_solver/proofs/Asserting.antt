@@ -2,9 +2,9 @@
 use Rattle.std.proofs.Common.{◌≡◌, true, false, List, [], ◌∷◌, ◌++◌, ◌⊎◌, inl, inr, refl, ap, sym, ◌∙◌, subst}
 use Rattle.std.proofs.lemmas.Bool.{both_ways, true≢false, or_left, or_right, or_cases}
 use Rattle.clause_core.specs.Literal.{Literal, flip, same, has}
-use Rattle.clause_core.proofs.Literals.{flip-flip, has-cases, same-refl}
+use Rattle.clause_core.proofs.Tools.{flip-flip, has-cases, same-refl}
 use Rattle.lrat_replay.specs.Status.{Known, Rests, IsConflict}
-use Rattle.lrat_replay.proofs.Runs.{IsConsistent, IsWithin}
+use Rattle.lrat_replay.proofs.Tools.{IsConsistent, IsWithin}
 use Rattle.clause_solver.specs.Trail.{known_by, IsFresh}
 use Rattle.clause_solver.specs.Analysis.{IsSomeSeen, IsNoneSeen, IsFound, IsSought}
 use Rattle.clause_solver.specs.declared.value.Value.{Value}

@@ -5,15 +5,14 @@ use Rattle.std.specs.FinSet as set
 use Rattle.std.proofs.lemmas.Bool.{and_parts, both_ways, true≢false, not-true, false_from_ne_true}
 use Rattle.std.proofs.lemmas.List.Elements.{Contains-append_right}
 use Rattle.clause_core.specs.Literal.{Literal, flip, same, has}
-use Rattle.clause_core.proofs.Literals.{flip-flip, same-at}
+use Rattle.clause_core.proofs.Tools.{flip-flip, same-at}
 use Rattle.lrat_replay.specs.Status.{Known, Rests}
 use Rattle.std.specs.Prelude.{slice_get}
 use Rattle.clause_solver.specs.Copy.{IsCopy}
 use Rattle.clause_solver.specs.Plain.{AllRest}
 use Rattle.lrat_replay.specs.Book.{Book, Numbered, numbered, all_of, find, live, last_id, denied}
 use Rattle.lrat_replay.specs.New.{IsSubset, IsNew, TellsPropagation, IsUndecided, denied_but}
-use Rattle.lrat_replay.proofs.Sound.{addition-passed, Contains-cases}
-use Rattle.lrat_replay.proofs.Runs.{IsConsistent, IsWithin, stays}
+use Rattle.lrat_replay.proofs.Tools.{addition-passed, Contains-cases, IsConsistent, IsWithin, stays}
 
 -- literals under which no clause forces anything: a trail at the moment of a decision
 pub record IsClosed (book : Book) (all : Known) : Type 0 where

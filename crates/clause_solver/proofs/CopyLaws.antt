@@ -11,7 +11,7 @@ use Rattle.std.specs.Ordering.{nat_cmp}
 use Rattle.std.proofs.lemmas.Bool.{eq-eqb, ne_eqb, or_from, lt-ltb, le-ltb}
 use Rattle.clause_core.specs.Literal.{Literal}
 use Rattle.lrat_replay.specs.Book.{Book, Numbered, numbered, all_of, find, live, last_of, run, Accepted, denied, some_flip, some_above, addition_fault, after_addition}
-use Rattle.lrat_replay.proofs.Sound.{addition-none}
+use Rattle.lrat_replay.proofs.Tools.{addition-none}
 use Rattle.clause_solver.specs.Plain.{at_of}
 use Rattle.clause_solver.specs.Copy.{IsCopy}
 

@@ -3,7 +3,7 @@ use Rattle.std.proofs.Common.{◌≡◌, ℕ, ◌+◌, ◌<◌, ◌≤◌, true,
 use Rattle.std.specs.Prelude.{slice_get}
 use Rattle.std.proofs.lemmas.Bool.{both_ways, true≢false}
 use Rattle.clause_core.specs.Literal.{Literal, flip, has}
-use Rattle.clause_core.proofs.Literals.{flip-flip, has-cases}
+use Rattle.clause_core.proofs.Tools.{flip-flip, has-cases}
 use Rattle.lrat_replay.specs.Status.{Known}
 use Rattle.clause_solver.specs.Trail.{known_by, oldest, IsFresh}
 use Rattle.clause_solver.specs.Analysis.{IsSomeSeen, IsSought, MayKeep, IsLed}

@@ -6,7 +6,7 @@ use Rattle.std.proofs.lemmas.Option.{get_or_from_slice_get, slice_get_within}
 use Rattle.clause_core.specs.Literal.{Literal, flip, has}
 use Rattle.clause_core.specs.Formula.{IsOver}
 use Rattle.lrat_replay.specs.Status.{IsSatisfied, IsUnit}
-use Rattle.lrat_replay.proofs.DenyLaws.{has-at}
+use Rattle.lrat_replay.proofs.Tools.{has-at}
 use Rattle.clause_solver.specs.Trail.{Track, known_by, oldest, before_last, has_decision, IsFresh, AreFresh, IsVariableOf, IsDecidedAt}
 use Rattle.clause_solver.specs.Plain.{HaveReasons}
 use Rattle.clause_solver.specs.Analysis.{IsAnchor, IsLed}

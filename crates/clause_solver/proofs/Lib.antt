@@ -1,19 +1,19 @@
-pub mod Reduce
-pub mod TrailPlaces
-pub mod Propagation
-pub mod Levels
-pub mod Marking
-pub mod AnalyseLaws
-pub mod Asserting
-pub mod CopyLaws
-pub mod Closed
-pub mod Backjump
-pub mod SomeSeen
-pub mod Anchor
-pub mod AnalysisSteps
-pub mod Steps
-pub mod Rounds
-pub mod Solved
+mod Reduce
+mod TrailPlaces
+mod Propagation
+mod Levels
+mod Marking
+mod AnalyseLaws
+mod Asserting
+mod CopyLaws
+mod Closed
+mod Backjump
+mod SomeSeen
+mod Anchor
+mod AnalysisSteps
+mod Steps
+mod Rounds
+mod Solved
 mod Lists
 mod Watching
 mod Visits

@@ -3,7 +3,7 @@ use Rattle.std.proofs.Common.{◌≡◌, ℕ, ◌+◌, ◌<◌, true, List, [], 
 use Rattle.std.proofs.lemmas.List.{take_more}
 use Rattle.std.proofs.lemmas.Bool.{or_left, or_right, true≢false}
 use Rattle.clause_core.specs.Literal.{Literal, flip, same, has}
-use Rattle.clause_core.proofs.Literals.{has-cases, same-at}
+use Rattle.clause_core.proofs.Tools.{has-cases, same-at}
 use Rattle.lrat_replay.specs.Status.{Known}
 
 pub record IsMarking (before now : Known) (clause : List Literal) : Type 0 where

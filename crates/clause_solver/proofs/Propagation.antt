@@ -4,12 +4,11 @@ use Rattle.std.specs.Prelude.{slice_get, All}
 use Rattle.std.proofs.Common.{get_or}
 use Rattle.std.proofs.lemmas.Bool.{cases_eq, eq-eqb, ne_eqb, true≢false}
 use Rattle.clause_core.specs.Literal.{Literal, number, same, has, literal_of, number-literal_of}
-use Rattle.clause_core.proofs.Literals.{same-true}
+use Rattle.clause_core.proofs.Tools.{same-true}
 use Rattle.lrat_replay.specs.Status.{Known, status, with_literal, Rests, IsUnit}
 use Rattle.lrat_replay.specs.declared.status.Status.TheVariants.{Satisfied, Unresolved}
 use Rattle.clause_core.specs.Formula.{IsOver}
-use Rattle.lrat_replay.proofs.StatusLaws.{satisfied-is, unresolved-is}
-use Rattle.lrat_replay.proofs.HintsLaws.{has_all}
+use Rattle.lrat_replay.proofs.Tools.{satisfied-is, unresolved-is, has_all}
 use Rattle.std.proofs.lemmas.List.Elements.{recursion_from_All}
 use Rattle.clause_solver.proofs.TrailPlaces.{number_below}
 use Rattle.clause_solver.specs.Trail.{Track, known_by, free, unassigned, IsFresh, IsVariableOf}

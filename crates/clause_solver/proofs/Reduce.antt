@@ -2,11 +2,10 @@
 use Rattle.std.proofs.Common.{◌≡◌, ℕ, true, false, List, [], ◌∷◌, ◌⊎◌, inl, inr, ap, sym, ◌∙◌, subst, ℤ, pos, Option, Some}
 use Rattle.std.proofs.lemmas.Bool.{or_cases, or_left, or_right, both_ways, true≢false, false_from_ne_true}
 use Rattle.clause_core.specs.Literal.{Literal, flip, same, has}
-use Rattle.clause_core.proofs.Literals.{flip-flip, same-true, same-refl, has-first, has-rest, has-cases}
+use Rattle.clause_core.proofs.Tools.{flip-flip, same-true, same-refl, has-first, has-rest, has-cases}
 use Rattle.lrat_replay.specs.Status.{Known, with_literal, IsUnit, IsConflict}
 use Rattle.lrat_replay.specs.Book.{run, Accepted, denied}
-use Rattle.lrat_replay.proofs.StatusLaws.{is-forces, is-conflict}
-use Rattle.lrat_replay.proofs.Runs.{IsConsistent, IsWithin, run-forces, run-conflict}
+use Rattle.lrat_replay.proofs.Tools.{is-forces, is-conflict, IsConsistent, IsWithin, run-forces, run-conflict}
 use Rattle.clause_solver.specs.Trail.{known_by, IsFresh}
 use Rattle.clause_solver.specs.Analysis.{IsReduced}
 use Rattle.clause_solver.specs.declared.value.Value.{Value}

@@ -7,7 +7,7 @@ use Rattle.clause_core.specs.Formula.{IsOver}
 use Rattle.lrat_replay.specs.Book.{Book, Numbered, after_addition, is_empty}
 use Rattle.lrat_replay.specs.New.{IsNew, AreAccepted, AreNew, AllTellPropagation}
 use Rattle.lrat_replay.specs.Learned.{after_steps, AreFresh, count_full, EndsEmpty}
-use Rattle.lrat_replay.proofs.LearnedLaws.{AllTellPropagation-append, AreAccepted-append, AreNew-append, after_steps-append, Learns-append, count_full-append}
+use Rattle.lrat_replay.proofs.Tools.{AllTellPropagation-append, AreAccepted-append, AreNew-append, after_steps-append, Learns-append, count_full-append}
 use Rattle.clause_solver.specs.Trail.{Track, known_by, free, unassigned, IsDecided, AreValued}
 use Rattle.clause_solver.specs.Plain.{AllRest, HaveReasons}
 use Rattle.clause_solver.specs.Search.{IsReady, Moment, LearnsNew, LearnsUpTo, DecidesRound, SatisfiesRound, RoundSo}

@@ -6,14 +6,11 @@ use Rattle.std.proofs.lemmas.Bool.{both_ways, false_from_ne_true}
 use Rattle.std.proofs.lemmas.List.Elements.{Contains-append_left, Contains-append_right}
 use Rattle.clause_core.specs.Literal.{Literal, flip, has, is_true}
 use Rattle.clause_core.specs.Formula.{IsOver, HasNoSolution, IsSatisfiedBy, value_in}
-use Rattle.clause_core.proofs.Literals.{clause_is_true-has}
+use Rattle.clause_core.proofs.Tools.{clause_is_true-has}
 use Rattle.lrat_replay.specs.Status.{Known, Rests, IsSatisfied}
 use Rattle.lrat_replay.specs.Book.{Book, Numbered, numbered, all_of, start}
 use Rattle.lrat_replay.specs.New.{IsOpen, IsUndecided, AreAccepted, AllTellPropagation}
-use Rattle.lrat_replay.proofs.Sound.{Contains-cases}
-use Rattle.lrat_replay.proofs.Runs.{IsConsistent}
-use Rattle.lrat_replay.proofs.LearnedLaws.{formula-after_steps, steps-after_steps, deleted-after_steps, AreAccepted-append, end_sound}
-use Rattle.lrat_replay.proofs.BudgetLaws.{fewer_than_sets}
+use Rattle.lrat_replay.proofs.Tools.{Contains-cases, IsConsistent, formula-after_steps, steps-after_steps, deleted-after_steps, AreAccepted-append, end_sound, fewer_than_sets}
 use Rattle.clause_solver.specs.Trail.{known_by, AreFresh, AreValued, IsVariableOf, HasValues}
 use Rattle.lrat_replay.specs.Learned.{EndsEmpty}
 use Rattle.clause_solver.specs.Copy.{IsCopy}

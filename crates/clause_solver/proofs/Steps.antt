@@ -8,8 +8,7 @@ use Rattle.clause_core.specs.Formula.{IsOver}
 use Rattle.lrat_replay.specs.Book.{Book, run, denied, Accepted, some_flip, addition_fault, after_addition, is_empty}
 use Rattle.lrat_replay.specs.New.{IsNew, TellsPropagation, IsUndecided}
 use Rattle.lrat_replay.specs.Ledger.{IsKeptOrAdded}
-use Rattle.lrat_replay.proofs.DenyLaws.{has-at, some_flip-some}
-use Rattle.lrat_replay.proofs.LearnedLaws.{Learns-none}
+use Rattle.lrat_replay.proofs.Tools.{has-at, some_flip-some, Learns-none}
 use Rattle.clause_solver.specs.Trail.{known_by, oldest, before_last, has_decision, AreFresh, AreOver, IsVariableOf}
 use Rattle.clause_solver.specs.Plain.{at_of, HaveReasons}
 use Rattle.clause_solver.specs.Analysis.{IsAsserting}

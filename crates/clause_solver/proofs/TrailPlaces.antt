@@ -2,7 +2,7 @@
 use Rattle.std.proofs.Common.{◌≡◌, ℕ, zero, suc, ◌+◌, ◌-◌, ◌*◌, ◌<◌, ◌≤◌, cond, List, [], ◌∷◌, ◌++◌, length, take, drop, reverse, get_or, refl, sym, ap, ◌∙◌, subst, arith, Bool, true, false, not, ◌&&◌, ◌||◌, length-drop}
 use Rattle.std.proofs.lemmas.List.{reverse-append, take_more, take-append-drop, length-reverse, length-append, drop_at, length-take-le}
 use Rattle.clause_core.specs.Literal.{Literal, number, same}
-use Rattle.clause_core.proofs.Literals.{same-true}
+use Rattle.clause_core.proofs.Tools.{same-true}
 use Rattle.lrat_replay.specs.Status.{without_literal}
 use Rattle.clause_solver.specs.Trail.{Track, known_by, IsFresh, AreFresh, IsVariableOf, AreOver, oldest}
 use Rattle.clause_solver.specs.declared.value.Value.{Value}

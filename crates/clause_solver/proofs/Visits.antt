@@ -6,7 +6,7 @@ use Rattle.std.proofs.lemmas.List.{take_more}
 use Rattle.std.proofs.lemmas.Option.{slice_get-get_or}
 use Rattle.clause_core.specs.Literal.{Literal, flip, number, has}
 use Rattle.clause_core.specs.Formula.{IsOver}
-use Rattle.clause_core.proofs.Literals.{flip-flip, same-true, has-cases}
+use Rattle.clause_core.proofs.Tools.{flip-flip, same-true, has-cases}
 use Rattle.lrat_replay.specs.Status.{Known, IsSatisfied, IsUnit, IsConflict}
 use Rattle.clause_solver.specs.Trail.{Track, known_by, oldest, unassigned, AreFresh, IsVariableOf}
 use Rattle.clause_solver.specs.Plain.{IsConflictAt, AllRest}

@@ -3,9 +3,9 @@ use Rattle.std.proofs.Common.{◌≡◌, ℕ, zero, suc, ◌+◌, ◌-◌, ◌<�
 use Rattle.std.specs.Prelude.{slice_get}
 use Rattle.std.proofs.lemmas.Bool.{cases_Bool, cases_eq, both_ways, true≢false, false_from_ne_true}
 use Rattle.clause_core.specs.Literal.{Literal, flip, number, has}
-use Rattle.clause_core.proofs.Literals.{flip-flip}
+use Rattle.clause_core.proofs.Tools.{flip-flip}
 use Rattle.lrat_replay.specs.Status.{Known, Rests, IsSatisfied}
-use Rattle.lrat_replay.proofs.Runs.{IsWithin}
+use Rattle.lrat_replay.proofs.Tools.{IsWithin}
 use Rattle.clause_solver.specs.Trail.{known_by, oldest, before_last, has_decision}
 use Rattle.clause_solver.specs.Plain.{AllRest}
 use Rattle.clause_solver.specs.Watch.{list_of, count, pair_at, IsEntry, StandsBelow, IsListed, HasNoted, IsOfPair, HasSettled, HasTurned}

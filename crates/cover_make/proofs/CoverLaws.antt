@@ -11,9 +11,7 @@ use Rattle.std.proofs.lemmas.List.Folds.{list_any_at}
 use Rattle.cube_core.specs.Assignment.{bit}
 use Rattle.cube_core.specs.Cube.{Product, IsProduct, literal_of, agrees, in_cube, IsInside, Meet}
 use Rattle.cube_core.specs.Members.{Assignments, AllBelow, IsWithin}
-use Rattle.cube_core.proofs.CubeLaws.{in_cube-all, in_cube-from, IsProduct-point, literals-point, in_cube-point}
-use Rattle.cube_core.proofs.LiteralLaws.{IsInside-point}
-use Rattle.cube_core.proofs.MembersLaws.{contains-complement_of, complement_of-AllBelow}
+use Rattle.cube_core.proofs.Tools.{in_cube-all, in_cube-from, IsProduct-point, literals-point, in_cube-point, IsInside-point, contains-complement_of, complement_of-AllBelow}
 use Rattle.cover_make.specs.Literals.{point_of}
 use Rattle.cover_make.specs.Cubes.{Products, AreProducts, HasInputsBelow, has, table_of, uncovered_by, Covers}
 use Rattle.cover_make.specs.Cover.{expansion_from, expansions_below, irredundant_part, cover_of, off_cover_of, IsPrime, IsIrredundant}

@@ -8,8 +8,7 @@ use Rattle.std.proofs.lemmas.List.{take_more}
 use Rattle.std.proofs.lemmas.List.Folds.{list_any-append}
 use Rattle.cube_core.specs.Cube.{Product, in_cube, members_of_cube, each_below}
 use Rattle.cube_core.specs.Members.{Assignments, AllBelow}
-use Rattle.cube_core.proofs.MembersLaws.{contains-passing_below}
-use Rattle.cube_core.proofs.CubeLaws.{contains-members_of_cube}
+use Rattle.cube_core.proofs.Tools.{contains-passing_below, contains-members_of_cube}
 use Rattle.cover_make.specs.Cubes.{has, table_of, Covers}
 
 pub has-append : (before after : List Product) (x : ℕ) → has (before ++ after) x ≡ (has before x || has after x)

@@ -7,7 +7,7 @@ use Rattle.std.proofs.lemmas.Option.{none-some}
 use Rattle.cube_core.specs.Assignment.{bit}
 use Rattle.cube_core.specs.Cube.{Product, IsProduct, literal_of, in_cube, members_of_cube, IsInside}
 use Rattle.cube_core.specs.Members.{Assignments}
-use Rattle.cube_core.proofs.LiteralLaws.{IsInside-IsWithin, contains-from_literals}
+use Rattle.cube_core.proofs.Tools.{IsInside-IsWithin, contains-from_literals}
 use Rattle.cover_make.specs.Literals.{point_of, without}
 use Rattle.cover_make.specs.Cubes.{HasInputsBelow}
 use Rattle.cover_make.specs.Cover.{is_inside, expansion, expansion_from, IsPrime}

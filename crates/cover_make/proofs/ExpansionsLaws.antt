@@ -7,9 +7,7 @@ use Rattle.std.proofs.lemmas.List.Elements.{All-nil, All-push}
 use Rattle.std.specs.Cmp.{nat_cmp_total}
 use Rattle.cube_core.specs.Cube.{Product, in_cube, members_of_cube}
 use Rattle.cube_core.specs.Members.{Assignments, AllBelow, IsLeast}
-use Rattle.cube_core.proofs.CubeLaws.{contains-members_of_cube}
-use Rattle.cube_core.proofs.CountLaws.{count_below}
-use Rattle.cube_core.proofs.SetLaws.{none_from_empty}
+use Rattle.cube_core.proofs.Tools.{contains-members_of_cube, count_below, none_from_empty}
 use Rattle.cover_make.specs.Cubes.{has}
 use Rattle.cover_make.specs.Cover.{expansion_from, expansions_below}
 use Rattle.cover_make.proofs.CubesLaws.{has-append, has_left, has_right, has_one}

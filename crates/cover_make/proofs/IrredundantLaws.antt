@@ -8,7 +8,7 @@ use Rattle.std.proofs.lemmas.List.{append_assoc}
 use Rattle.std.proofs.lemmas.List.Elements.{All-nil, All-cons, All-head, All-tail}
 use Rattle.cube_core.specs.Cube.{Product, in_cube, each_below}
 use Rattle.cube_core.specs.Members.{Assignments, AllBelow}
-use Rattle.cube_core.proofs.CubeLaws.{each_below-all}
+use Rattle.cube_core.proofs.Tools.{each_below-all}
 use Rattle.cover_make.specs.Cubes.{has, Covers}
 use Rattle.cover_make.specs.Cover.{covers, irredundant_part, IsMissed, IsIrredundant}
 use Rattle.cover_make.proofs.CubesLaws.{has-append, has_left, has_right, Covers-from_subset, subset_from_Covers, Fails-each_below}

@@ -1,7 +1,8 @@
-pub mod LiteralsLaws
-pub mod CubesLaws
-pub mod ExpansionLaws
-pub mod ExpansionsLaws
-pub mod IrredundantLaws
-pub mod TailsLaws
-pub mod CoverLaws
+mod LiteralsLaws
+mod CubesLaws
+mod ExpansionLaws
+mod ExpansionsLaws
+mod IrredundantLaws
+mod TailsLaws
+mod CoverLaws
+pub mod Tools

@@ -7,9 +7,7 @@ use Rattle.std.proofs.lemmas.Grind.{pow_more}
 use Rattle.std.specs.Int.{bit_at}
 use Rattle.cube_core.specs.Assignment.{bit}
 use Rattle.cube_core.specs.Cube.{Product, IsProduct, literal_of, agrees, in_cube}
-use Rattle.cube_core.proofs.WordLaws.{bit-and}
-use Rattle.cube_core.proofs.CubeLaws.{literal_of-past, in_cube-from}
-use Rattle.cube_core.proofs.LiteralLaws.{same_from_tests, bit-past, same_product}
+use Rattle.cube_core.proofs.Tools.{bit-and, literal_of-past, in_cube-from, same_from_tests, bit-past, same_product}
 use Rattle.cover_make.specs.Literals.{bits_below, cube_by, point_of, without}
 
 -- ---- a number by its bits

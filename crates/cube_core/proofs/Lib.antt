@@ -1,6 +1,7 @@
-pub mod MembersLaws
-pub mod WordLaws
-pub mod SetLaws
-pub mod CubeLaws
-pub mod LiteralLaws
-pub mod CountLaws
+mod MembersLaws
+mod WordLaws
+mod SetLaws
+mod CubeLaws
+mod LiteralLaws
+mod CountLaws
+pub mod Tools

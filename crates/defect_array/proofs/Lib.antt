@@ -1,4 +1,5 @@
 mod Placed
 mod RowLaws
 mod TakeLaws
-pub mod ReadLaws
+mod ReadLaws
+pub mod Tools

@@ -27,8 +27,7 @@ use Rattle.journal_text.specs.declared.target.Target.{Target}
 use Rattle.journal_text.specs.declared.target.Target.TheVariants.{Marked}
 use Rattle.lattice_question.specs.Asked.{OutcomeSo, SectionSo, AddsSection}
 use Rattle.lattice_question.specs.Written.{IsSectionOf, HasNoSection, IsShown, Searched, StoppedAsking}
-use Rattle.lattice_question.proofs.Fronts.{front_of_all}
-use Rattle.lattice_question.proofs.Sections.{shows_close}
+use Rattle.lattice_question.proofs.Tools.{front_of_all, shows_close}
 use Rattle.lattice_question.specs.declared.question.Outcome.{Outcome}
 use Rattle.lattice_question.specs.declared.question.Outcome.TheVariants as outcome
 use Rattle.defect_array.specs.Answering.{answer_for, proofs_for}

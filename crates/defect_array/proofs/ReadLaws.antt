@@ -11,8 +11,7 @@ use Rattle.lattice_grid.specs.declared.array.Defect.TheVariants.{Sound, StuckOpe
 use Rattle.lattice_grid.specs.Defects.{Defects, IsArray}
 use Rattle.report_text.specs.Cells.{defect_byte}
 use Rattle.report_text.specs.Pieces.{pieces}
-use Rattle.report_text.proofs.RowsLaws.{cells_of, cells-rows_of}
-use Rattle.report_text.proofs.WordLaws.{array_rows, rows_are}
+use Rattle.report_text.proofs.Tools.{cells_of, cells-rows_of, array_rows, rows_are}
 use Rattle.defect_array.specs.Reading.{is_switch, row_fault, row_at, fault_at, IsFirstFault, AreRowsOf, IsReadOneWay, IsRefusedOneWay, IsReadOrRefused, IsNeverBoth}
 use Rattle.defect_array.specs.Rows.{Row, counted, row_of, rows_from, rows_in}
 use Rattle.defect_array.specs.Taking.{defect_of, switches_of, HasTaken, IsSome}

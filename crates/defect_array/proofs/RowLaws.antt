@@ -10,7 +10,7 @@ use Rattle.std.proofs.lemmas.List.Concat.{flat_map-append}
 use Rattle.std.proofs.lemmas.List.Elements.{All-nil, All-cons, All-head, All-tail}
 use Rattle.lattice_grid.specs.declared.array.Defect.{Defect}
 use Rattle.report_text.specs.Cells.{defect_byte, rows_of}
-use Rattle.report_text.proofs.RowsLaws.{cells_of, rows_of-cells, length-cells}
+use Rattle.report_text.proofs.Tools.{cells_of, rows_of-cells, length-cells}
 use Rattle.defect_array.specs.Reading.{is_switch, row_fault, row_at, fault_at, IsFirstFault, AreRowsOf}
 use Rattle.defect_array.specs.Rows.{Row, row_of}
 use Rattle.defect_array.specs.Taking.{defect_of, switches_of, HasTaken, IsSome}

@@ -10,7 +10,7 @@ use Rattle.lattice_grid.specs.declared.array.Defect.{Defect}
 use Rattle.report_text.specs.Pieces.{pieces}
 use Rattle.lattice_grid.specs.Defects.{Defects}
 use Rattle.lattice_grid.specs.Rectangle.{Size, IsSize}
-use Rattle.report_text.proofs.WordLaws.{size_of_array}
+use Rattle.report_text.proofs.Tools.{size_of_array}
 use Rattle.defect_array.specs.Reading.{fault_at, IsFirstFault, AreRowsOf, Reads, Refused}
 use Rattle.defect_array.specs.Rows.{Row, counted, row_of, rows_from, rows_in}
 use Rattle.defect_array.specs.Taking.{HasTaken, IsSome}

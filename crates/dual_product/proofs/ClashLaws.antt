@@ -6,11 +6,10 @@ use Rattle.std.proofs.lemmas.Option.{none-some}
 use Rattle.cube_core.specs.Assignment.{bit}
 use Rattle.cube_core.specs.Cube.{Product, IsProduct, literal_of, agrees, in_cube, Meet, ClashAt, IsLeastClash}
 use Rattle.cube_core.specs.Rising.{least_from}
-use Rattle.cube_core.proofs.CubeLaws.{in_cube-all, literal_of-past}
-use Rattle.cube_core.proofs.LiteralLaws.{no_clash-Meet, literal_of-few}
+use Rattle.cube_core.proofs.Tools.{in_cube-all, literal_of-past, no_clash-Meet, literal_of-few}
 use Rattle.cover_make.specs.Cubes.{HasInputsBelow}
 use Rattle.lattice_grid.specs.Control.{value_of, NamesBelow}
-use Rattle.lattice_grid.proofs.Differences.{least_from-first}
+use Rattle.lattice_grid.proofs.Tools.{least_from-first}
 use Rattle.dual_product.specs.Dual.{are_opposite, clash_of, control_of, literal_against}
 
 -- whether two cubes clash at an input

@@ -10,20 +10,17 @@ use Rattle.std.proofs.lemmas.List.Elements.{All-nil, All-cons, All-append, All-m
 use Rattle.cube_core.specs.Cube.{Product, IsProduct, in_cube, ClashAt}
 use Rattle.cube_core.specs.Function.{Function, IsFunction}
 use Rattle.cube_core.specs.Members.{Assignments, IsWithin, complement_of}
-use Rattle.cube_core.proofs.MembersLaws.{contains-complement_of}
-use Rattle.cube_core.proofs.LiteralLaws.{literal_of-few}
-use Rattle.cube_core.proofs.SetLaws.{empty_from_none}
+use Rattle.cube_core.proofs.Tools.{contains-complement_of, literal_of-few, empty_from_none}
 use Rattle.cover_make.specs.Cubes.{Products, AreProducts, HasInputsBelow, has, table_of}
 use Rattle.cover_make.specs.Cover.{cover_of, off_cover_of}
-use Rattle.cover_make.proofs.CubesLaws.{contains-table_of}
-use Rattle.cover_make.proofs.CoverLaws.{cover_of-AreProducts, cover_of-inside, cover_of-covers, length-cover_of, off_cover_of-AreProducts, off_cover_of-covers, off_cover_of-apart, length-off_cover_of}
+use Rattle.cover_make.proofs.Tools.{contains-table_of, cover_of-AreProducts, cover_of-inside, cover_of-covers, length-cover_of, off_cover_of-AreProducts, off_cover_of-covers, off_cover_of-apart, length-off_cover_of}
 use Rattle.lattice_grid.specs.declared.control.Control.{Control}
 use Rattle.lattice_grid.specs.declared.control.Control.TheVariants.{Zero, One}
 use Rattle.lattice_grid.specs.Control.{value_of, NamesBelow}
 use Rattle.lattice_grid.specs.Lattice.{Lattice, IsOver, is_on_at}
 use Rattle.lattice_grid.specs.Realise.{Joined, Realises}
 use Rattle.lattice_grid.specs.Pairs.{single}
-use Rattle.lattice_grid.proofs.PathLaws.{joined_by_column, not_joined_past_row}
+use Rattle.lattice_grid.proofs.Tools.{joined_by_column, not_joined_past_row}
 use Rattle.dual_product.specs.Dual.{clash_of, literal_against, AreApart, dual_between, on_cover_of, dual_of}
 use Rattle.dual_product.proofs.ClashLaws.{clash_of-ClashAt, literal_against-on, literal_against-off, literal_against-NamesBelow}
 

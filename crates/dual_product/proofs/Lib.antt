@@ -1,2 +1,3 @@
-pub mod ClashLaws
-pub mod DualLaws
+mod ClashLaws
+mod DualLaws
+pub mod Tools

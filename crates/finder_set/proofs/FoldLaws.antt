@@ -6,7 +6,7 @@ use Rattle.finder_set.specs.declared.folded.Neighbours.{Neighbours}
 use Rattle.finder_set.specs.declared.folded.Neighbours.TheVariants.{Columns, Rows}
 use Rattle.finder_set.specs.Folded.{folded_control, IsCovered}
 use Rattle.finder_set.specs.Folding.{cell_of_two, number_in, next_to, IsOneLess, IsFolded}
-use Rattle.lattice_compose.proofs.CellLaws.{read_has}
+use Rattle.lattice_compose.proofs.Tools.{read_has}
 use Rattle.lattice_grid.specs.declared.control.Control.{Control}
 use Rattle.lattice_grid.specs.declared.control.Control.TheVariants.{Zero, One, Plain, Bar}
 use Rattle.lattice_grid.specs.declared.shape.Place.{Place}
@@ -15,7 +15,7 @@ use Rattle.lattice_grid.specs.Drawn.{IsDrawn}
 use Rattle.lattice_grid.specs.Lattice.{Lattice, IsOver, control_at}
 use Rattle.lattice_grid.specs.Path.{IsWithin}
 use Rattle.lattice_grid.specs.Rectangle.{Size, IsSize}
-use Rattle.lattice_grid.proofs.DrawnLaws.{drawn_All}
+use Rattle.lattice_grid.proofs.Tools.{drawn_All}
 
 -- ---- what stands where
 module _ (lines : Neighbours) (number : ℕ) (a : Lattice) (p : Place) where

@@ -4,4 +4,5 @@ mod Ordering
 mod ShrinkingLaws
 mod SplitLaws
 mod TrialLaws
-pub mod Wider
+mod Wider
+pub mod Tools

@@ -10,13 +10,12 @@ use Rattle.std.proofs.lemmas.List.Folds.{list_any_none}
 use Rattle.cube_core.specs.Cube.{Product, in_cube}
 use Rattle.cube_core.specs.Function.{Function, IsFunction}
 use Rattle.cube_core.specs.Members.{AllBelow, complement_of}
-use Rattle.cube_core.proofs.MembersLaws.{contains-complement_of, complement_of-AllBelow, complement_of-AreDisjoint, passing_below-AllBelow, IsFunction-complement}
+use Rattle.cube_core.proofs.Tools.{contains-complement_of, complement_of-AllBelow, complement_of-AreDisjoint, passing_below-AllBelow, IsFunction-complement}
 use Rattle.cover_make.specs.Cubes.{Products, AreProducts, has, table_of, uncovered_by}
 use Rattle.cover_make.specs.Cover.{off_cover_of}
-use Rattle.cover_make.proofs.CubesLaws.{has-append, contains-table_of}
-use Rattle.cover_make.proofs.CoverLaws.{cover_of-AreProducts, cover_of-covers, cover_of-inside, off_cover_of-covers, off_cover_of-inside}
+use Rattle.cover_make.proofs.Tools.{has-append, contains-table_of, cover_of-AreProducts, cover_of-covers, cover_of-inside, off_cover_of-covers, off_cover_of-inside}
 use Rattle.dual_product.specs.Dual.{dual_of, on_cover_of}
-use Rattle.dual_product.proofs.DualLaws.{on-IsWithin, dual_of-IsOver, dual_of-Realises}
+use Rattle.dual_product.proofs.Tools.{on-IsWithin, dual_of-IsOver, dual_of-Realises}
 use Rattle.finder_set.specs.declared.split.Side.{Side}
 use Rattle.finder_set.specs.declared.split.Side.TheVariants.{On, Off}
 use Rattle.finder_set.specs.Put.{HasPut, IsPutTogether}

@@ -5,7 +5,7 @@ use Rattle.std.specs.declared.option.Option.{Option}
 use Rattle.audit_core.specs.Audit.{IsFirstFault, IsMisclosed, Basis, basis_of, Audited, AreRight, HasRefused, IsAuditRefused, IsKindRefused, IsSectionRefused, IsAnswerRefused}
 use Rattle.audit_core.specs.declared.refusal.AuditRefusal.{AuditRefusal}
 use Rattle.audit_core.specs.declared.refusal.AuditRefusal.TheVariants as refusals
-use Rattle.audit_core.proofs.RefusalLaws.{not_right, one_refusal}
+use Rattle.audit_core.proofs.Tools.{not_right, one_refusal}
 use Rattle.journal_text.specs.Parts.{Part, Section, Question, Answered, JournalParts, section_of, kind_of, part_of, parts_of_journal}
 use Rattle.journal_text.specs.Proved.{formula_of}
 use Rattle.journal_text.specs.Text.{head_text, part_text}

@@ -3,7 +3,7 @@ use Rattle.std.proofs.Common.{◌≡◌, ℕ, ◌<◌, ◌≤◌, inl, inr, List
 use Rattle.std.specs.Prelude.{IfSome, IsSomeAnd, slice_get, drop, None}
 use Rattle.cube_core.specs.Function.{Function}
 use Rattle.defect_array.specs.Reading.{Reads as ReadsArray}
-use Rattle.defect_array.proofs.ReadLaws.{one_reading, one_refusal as one_array_refusal, never_both}
+use Rattle.defect_array.proofs.Tools.{one_reading, one_refusal as one_array_refusal, never_both}
 use Rattle.lattice_grid.specs.Defects.{Defects}
 use Rattle.lattice_grid.specs.Rectangle.{Size}
 use Rattle.std.specs.declared.option.Option.{Option}
@@ -15,19 +15,19 @@ use Rattle.clause_core.specs.declared.refusal.CnfRefusal.{CnfRefusal}
 use Rattle.journal_text.specs.Parts.{JournalParts}
 use Rattle.journal_text.specs.Reading.{Gives as GivesJournal, IsRefused as IsNoJournal}
 use Rattle.journal_text.specs.declared.refusal.JournalRefusal.{JournalRefusal}
-use Rattle.journal_text.proofs.GivesLaws.{one_answer as one_journal_answer}
+use Rattle.journal_text.proofs.Tools.{one_answer as one_journal_answer}
 use Rattle.lrat_replay.specs.declared.line.Line.{Line}
 use Rattle.lrat_replay.specs.declared.refusal.LratRefusal.{LratRefusal}
 use Rattle.lrat_replay.specs.Book.{start}
 use Rattle.lrat_replay.specs.LratRead.{lrat_of}
 use Rattle.pla_reader.specs.Parts.{Parts}
 use Rattle.pla_reader.specs.Reading.{Reads, Refused as IsPlaRefused}
-use Rattle.pla_reader.proofs.AnswersLaws.{Reads-once, Refused-once, Reads-or_Refused}
+use Rattle.pla_reader.proofs.Tools.{Reads-once, Refused-once, Reads-or_Refused}
 use Rattle.report_text.specs.declared.report.ReportRefusal.{ReportRefusal}
 use Rattle.trial_text.specs.Made.{made}
 use Rattle.report_text.specs.Reading.{Gives, IsRefused}
 use Rattle.report_text.specs.Report.{ReportParts}
-use Rattle.report_text.proofs.AnswerLaws.{one_answer}
+use Rattle.report_text.proofs.Tools.{one_answer}
 use Rattle.four_lattice.specs.Check.{IsAccepted, adds_empty, end_line}
 use Rattle.four_lattice.specs.Judge.{Texts, Task, Judgement, Refused, Accepted, Lattices, Encoding, Realised, Refuted, Confirmed, Minima, Placed, Tried, Stage, Test, Last, TextRefuses, as_pla, as_cnf, as_array, IsArrayRefused, ArrayRefuses, ArrayGives, IsCnfRefused, IsLratRefused, IsReportRefused, IsJournalRefused, JournalRefuses, JournalGives, Unconfirms, AuditComes, LratRefuses, LratGives, ReportRefuses, ReportGives, LacksOutput, LacksFunction, Denies, LinesStop, LinesRefuse, LatticesCome, EncodingComes, VerifyComes, CheckComes, SynthComes, MapComes, JobComes, Comes, Renewed, JournalComes}
 use Rattle.four_lattice.specs.Laws.{IsOneJudgement, IsConfirmed}

@@ -1,24 +1,25 @@
-pub mod BlocksLaws
-pub mod ReplayedLaws
-pub mod InputsLaws
-pub mod VerifiedLaws
-pub mod PrintedLaws
-pub mod WordsClap
-pub mod WordsLaws
-pub mod WordsNumbers
-pub mod WordsRules
-pub mod WordsTaken
-pub mod WordsTurns
-pub mod FinishLaws
-pub mod AuditedLaws
-pub mod JudgeLaws
-pub mod SettledLaws
-pub mod CommandLaws
-pub mod SideAuditLaws
-pub mod SynthLists
-pub mod TallyLaws
-pub mod SynthLaws
-pub mod SynthFinish
-pub mod TrialLaws
-pub mod RejectedLaws
-pub mod MapFinish
+mod BlocksLaws
+mod ReplayedLaws
+mod InputsLaws
+mod VerifiedLaws
+mod PrintedLaws
+mod WordsClap
+mod WordsLaws
+mod WordsNumbers
+mod WordsRules
+mod WordsTaken
+mod WordsTurns
+mod FinishLaws
+mod AuditedLaws
+mod JudgeLaws
+mod SettledLaws
+mod CommandLaws
+mod SideAuditLaws
+mod SynthLists
+mod TallyLaws
+mod SynthLaws
+mod SynthFinish
+mod TrialLaws
+mod RejectedLaws
+mod MapFinish
+pub mod Tools

@@ -8,16 +8,14 @@ use Rattle.lattice_grid.specs.Lattice.{IsOver}
 use Rattle.lattice_grid.specs.Realise.{Realises}
 use Rattle.lattice_grid.specs.Pairs.{pairs_of}
 use Rattle.lattice_grid.specs.Lattice.{Lattice}
-use Rattle.lattice_grid.proofs.RailsLaws.{all_bits}
-use Rattle.lattice_grid.proofs.StartLaws.{over_full}
-use Rattle.lattice_grid.proofs.RealiseLaws.{pairs_of-Realises, IsOver-read}
-use Rattle.dual_product.proofs.DualLaws.{dual_of-Realises, dual_of-IsOver}
+use Rattle.lattice_grid.proofs.Tools.{all_bits, over_full, pairs_of-Realises, IsOver-read}
+use Rattle.dual_product.proofs.Tools.{dual_of-Realises, dual_of-IsOver}
 use Rattle.pla_reader.specs.Parts.{Parts, IsPla}
 use Rattle.report_text.specs.declared.answer.Answer.TheVariants.{Found}
 use Rattle.std.specs.Prelude.{IfSome}
 use Rattle.lattice_grid.specs.Rails.{IsOverRails}
 use Rattle.path_meaning.specs.Defective.{RealisesIn}
-use Rattle.path_meaning.proofs.Plainly.{realising_plainly}
+use Rattle.path_meaning.proofs.Tools.{realising_plainly}
 use Rattle.report_text.specs.declared.answer.Version.TheVariants.{Two}
 use Rattle.report_text.specs.Form.{lattice_of}
 use Rattle.report_text.specs.Report.{BlockParts}

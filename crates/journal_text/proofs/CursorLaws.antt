@@ -15,7 +15,7 @@ use Rattle.journal_text.specs.declared.reader.Reader.{Reader}
 use Rattle.journal_text.specs.declared.refusal.JournalRefusal.{JournalRefusal}
 use Rattle.journal_text.specs.declared.refusal.JournalRefusal.TheVariants as refusals
 use Rattle.report_text.specs.Pieces.{feeds}
-use Rattle.report_text.proofs.FeedLaws.{feeds-append}
+use Rattle.report_text.proofs.Tools.{feeds-append}
 use Rattle.report_text.specs.declared.answer.Version.{Version}
 use Rattle.journal_text.proofs.PartsLaws.{PartsRead, PartsRead-none, PartsRead-push, parts_bound, part_shorter, parts_refused, all_parts, more_behind, begun_refused, begun_read}
 

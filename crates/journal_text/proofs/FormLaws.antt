@@ -7,9 +7,7 @@ use Rattle.lattice_grid.specs.Defects.{Defects, IsArray}
 use Rattle.lattice_grid.specs.Rectangle.{Size, IsSize}
 use Rattle.report_text.specs.Cells.{size_text, array_text}
 use Rattle.report_text.specs.Pieces.{words}
-use Rattle.report_text.proofs.JoinLaws.{join-pieces}
-use Rattle.report_text.proofs.PiecesLaws.{pieces-some}
-use Rattle.report_text.proofs.WordLaws.{sizes, size_of_array}
+use Rattle.report_text.proofs.Tools.{join-pieces, pieces-some, sizes, size_of_array}
 use Rattle.journal_text.specs.Bounds.{IsTarget, IsClose}
 use Rattle.journal_text.specs.Lines.{target_words, close_words}
 use Rattle.journal_text.specs.declared.target.Close.{Close}

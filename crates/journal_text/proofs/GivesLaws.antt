@@ -8,7 +8,7 @@ use Rattle.report_text.specs.Report.Kind.{OfHeading, OfCells, OfProofs}
 use Rattle.report_text.specs.declared.answer.Version.{Version}
 use Rattle.report_text.specs.declared.block.BlockFault.{BlockFault}
 use Rattle.report_text.specs.declared.block.BlockFault.TheVariants as faults
-use Rattle.report_text.proofs.FeedLaws.{feeds-append, feeds-none}
+use Rattle.report_text.proofs.Tools.{feeds-append, feeds-none}
 use Rattle.journal_text.specs.Bounds.{IsJournal}
 use Rattle.journal_text.specs.Parts.{JournalParts, parts_of_journal}
 use Rattle.journal_text.specs.Reading.{Place, before, IsPlace, Next, next_at, IsAnswerFault, IsBadAnswer, HasMore, HasLine, Halts, IsRefused, Gives, HasLineNumbers, seen}

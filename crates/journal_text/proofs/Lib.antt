@@ -1,13 +1,14 @@
-pub mod TextLaws
-pub mod WordsLaws
-pub mod FormLaws
-pub mod OriginLaws
-pub mod SectionLaws
-pub mod ShownLaws
-pub mod RunLaws
-pub mod VerdictLaws
-pub mod GivesLaws
-pub mod ReadLaws
-pub mod PartsLaws
-pub mod CursorLaws
-pub mod WriteLaws
+mod TextLaws
+mod WordsLaws
+mod FormLaws
+mod OriginLaws
+mod SectionLaws
+mod ShownLaws
+mod RunLaws
+mod VerdictLaws
+mod GivesLaws
+mod ReadLaws
+mod PartsLaws
+mod CursorLaws
+mod WriteLaws
+pub mod Tools

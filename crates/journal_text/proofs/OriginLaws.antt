@@ -13,8 +13,7 @@ use Rattle.lrat_replay.specs.declared.line.Step.{Step}
 use Rattle.lrat_replay.specs.LratText.{hints_text, step_text}
 use Rattle.report_text.specs.Cells.{size_text, array_text, rows_of, defect_byte}
 use Rattle.report_text.specs.Pieces.{Without}
-use Rattle.report_text.proofs.JoinLaws.{Without-join}
-use Rattle.report_text.proofs.PiecesLaws.{Without-append}
+use Rattle.report_text.proofs.Tools.{Without-join, Without-append}
 use Rattle.report_text.specs.Report.{Line, BlockParts, words_text, text_of, block_text, block_lines}
 use Rattle.report_text.specs.declared.answer.Version.{Version}
 use Rattle.report_text.specs.declared.answer.Version.TheVariants.{One, Two}

@@ -18,12 +18,7 @@ use Rattle.report_text.specs.declared.block.BlockFault.{BlockFault}
 use Rattle.report_text.specs.declared.block.BlockFault.TheVariants as faults
 use Rattle.report_text.specs.declared.form.Form.{Form}
 use Rattle.report_text.specs.declared.form.Form.TheVariants.{Found, Minimum, Undecided, Mapped, NoneMapped, MapUndecided, NoRails}
-use Rattle.report_text.proofs.AnswerLaws.{fault_of}
-use Rattle.report_text.proofs.BlocksLaws.{block_shorter}
-use Rattle.report_text.proofs.FeedLaws.{feeds-append, feeds-none, feeds-line}
-use Rattle.report_text.proofs.MemberLaws.{block_lead, said_block, text_of-block}
-use Rattle.report_text.proofs.StopLaws.{stops_here}
-use Rattle.report_text.proofs.WholeLaws.{feeds-lines}
+use Rattle.report_text.proofs.Tools.{fault_of, block_shorter, feeds-append, feeds-none, feeds-line, block_lead, said_block, text_of-block, stops_here, feeds-lines}
 use Rattle.journal_text.specs.Bounds.{IsTarget, IsPart, IsJournal}
 use Rattle.journal_text.specs.Lines.{SaysFound, question_words, HasSteps, IsRefusedInside, refusal_for, IsRefusedBehind, IsPartAt, AreParts, first_number}
 use Rattle.journal_text.specs.Parts.{Part, part_of}

@@ -11,7 +11,7 @@ use Rattle.report_text.specs.Bounds.{AreRails}
 use Rattle.report_text.specs.Pieces.{Without, Cuts, words, feeds}
 use Rattle.report_text.specs.declared.answer.Version.{Version}
 use Rattle.report_text.specs.declared.answer.Version.TheVariants.{One, Two}
-use Rattle.report_text.proofs.FeedLaws.{feeds-append, feeds-line}
+use Rattle.report_text.proofs.Tools.{feeds-append, feeds-line}
 use Rattle.journal_text.specs.Bounds.{IsClose, IsWritten}
 use Rattle.journal_text.specs.Lines.{close_words, HaltsInside, HasSteps, IsRefusedInside}
 use Rattle.journal_text.specs.Reading.{first_word, IsClosing, title_text, rails_text, before, Halts, IsRefused, AreNumbered}

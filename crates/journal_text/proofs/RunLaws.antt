@@ -17,12 +17,7 @@ use Rattle.report_text.specs.Report.{BlockParts, words_text, text_of, heading_wo
 use Rattle.report_text.specs.Form.{form_of, lattice_of, lists}
 use Rattle.report_text.specs.declared.answer.Version.{Version}
 use Rattle.report_text.specs.declared.answer.Version.TheVariants.{One, Two}
-use Rattle.report_text.proofs.AnswerLaws.{one_block}
-use Rattle.report_text.proofs.FormLaws.{headings}
-use Rattle.report_text.proofs.JoinLaws.{pieces-join, Without-join}
-use Rattle.report_text.proofs.MemberLaws.{heading_of_block, text_of-block}
-use Rattle.report_text.proofs.PiecesLaws.{same_cut, Without-append}
-use Rattle.report_text.proofs.SpellLaws.{Without-literal}
+use Rattle.report_text.proofs.Tools.{one_block, headings, pieces-join, Without-join, heading_of_block, text_of-block, same_cut, Without-append, Without-literal}
 use Rattle.journal_text.specs.Bounds.{IsTarget, IsClose, IsWritten, MayStand, IsPart, IsJournal}
 use Rattle.journal_text.specs.Lines.{IsLead, question_words, close_words}
 use Rattle.journal_text.specs.Parts.{Part, JournalParts}

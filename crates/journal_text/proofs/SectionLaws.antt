@@ -22,13 +22,12 @@ use Rattle.lrat_replay.specs.New.{AreNew}
 use Rattle.lrat_replay.specs.declared.line.LineKind.TheVariants.{Add}
 use Rattle.lrat_replay.specs.declared.line.Step.{Step}
 use Rattle.lrat_replay.specs.StepRead.{IsCounted}
-use Rattle.lrat_replay.proofs.Sound.{Contains-head, addition-passed}
-use Rattle.lrat_replay.proofs.TallyLaws.{fits, added}
+use Rattle.lrat_replay.proofs.Tools.{Contains-head, addition-passed, fits, added}
 use Rattle.report_text.specs.Bounds.{AreRails, IsBlock}
 use Rattle.report_text.specs.Pieces.{Without}
 use Rattle.report_text.specs.Report.{BlockParts, block_text}
 use Rattle.report_text.specs.declared.answer.Version.TheVariants.{Two}
-use Rattle.report_text.proofs.PiecesLaws.{Without-append, Without-front}
+use Rattle.report_text.proofs.Tools.{Without-append, Without-front}
 use Rattle.journal_text.specs.Bounds.{IsTarget, IsClose, IsWritten, IsAsked, IsPart, MayStand}
 use Rattle.journal_text.specs.Parts.{Part, Question, Answered, Section}
 use Rattle.journal_text.specs.Text.{front_text, question_text, steps_text, close_text}

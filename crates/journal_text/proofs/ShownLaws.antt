@@ -7,11 +7,10 @@ use Rattle.lattice_grid.specs.Rectangle.{Size, IsSize}
 use Rattle.lrat_replay.specs.Laws.{Refutes}
 use Rattle.lrat_replay.specs.declared.line.LineKind.{LineKind}
 use Rattle.lrat_replay.specs.declared.line.LineKind.TheVariants.{Add}
-use Rattle.lrat_replay.proofs.Sound.{refutation_sound}
+use Rattle.lrat_replay.proofs.Tools.{refutation_sound}
 use Rattle.reach_encoding.specs.Encoding.{Question as Asked, IsQuestion, encoding, HasSolution}
 use Rattle.reach_encoding.specs.Solved.{question_of}
-use Rattle.reach_encoding.proofs.Excluded.{excluded_below}
-use Rattle.reach_encoding.proofs.ModelLaws.{solution_of}
+use Rattle.reach_encoding.proofs.Tools.{excluded_below, solution_of}
 use Rattle.journal_text.specs.declared.target.Target.{Target}
 use Rattle.journal_text.specs.declared.target.Target.TheVariants.{Whole, Marked}
 use Rattle.journal_text.specs.Bounds.{IsTarget, IsPart, IsAsked}

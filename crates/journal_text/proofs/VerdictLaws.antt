@@ -15,13 +15,7 @@ use Rattle.report_text.specs.declared.block.BlockFault.{BlockFault}
 use Rattle.report_text.specs.declared.block.BlockFault.TheVariants as faults
 use Rattle.report_text.specs.declared.form.Form.{Form}
 use Rattle.report_text.specs.declared.form.Form.TheVariants.{Found, Minimum, Undecided, Mapped, NoneMapped, MapUndecided, NoRails}
-use Rattle.report_text.proofs.AnswerLaws.{one_fault, block_apart, some_block}
-use Rattle.report_text.proofs.FeedLaws.{feed_or_none}
-use Rattle.report_text.proofs.FormLaws.{headings}
-use Rattle.report_text.proofs.MemberLaws.{heading_of_block}
-use Rattle.report_text.proofs.PiecesLaws.{same_cut, no_cut}
-use Rattle.report_text.proofs.SpellLaws.{Without-literal}
-use Rattle.report_text.proofs.TestedLaws.{Tested, tested_list}
+use Rattle.report_text.proofs.Tools.{one_fault, block_apart, some_block, feed_or_none, headings, heading_of_block, same_cut, no_cut, Without-literal, Tested, tested_list}
 use Rattle.journal_text.specs.Bounds.{MayStand}
 use Rattle.journal_text.specs.Lines.{IsLead, refusal_for}
 use Rattle.journal_text.specs.Reading.{first_word, IsTitleLine, IsRailsLine, IsQuestionLine, IsClosingLine, IsStepLine, TellsFound, Next, IsBadTitle, AreBadRails, IsBadWord, IsAstray, IsBadQuestion, IsBadStep, IsAnswerFault, IsBadAnswer, HasMore, Halts}

@@ -14,18 +14,13 @@ use Rattle.lrat_replay.specs.LratText.{hints_text, end_text, step_text}
 use Rattle.lrat_replay.specs.StepRead.{IsLineOf}
 use Rattle.lrat_replay.specs.declared.line.LineKind.TheVariants.{Add, Delete}
 use Rattle.lrat_replay.specs.declared.line.Step.{Step}
-use Rattle.lrat_replay.proofs.StepLaws.{kind-line, kind-is_step}
+use Rattle.lrat_replay.proofs.Tools.{kind-line, kind-is_step}
 use Rattle.report_text.specs.Cells.{size_text, array_text}
 use Rattle.report_text.specs.Pieces.{Without, words}
 use Rattle.report_text.specs.Report.{words_text}
 use Rattle.report_text.specs.declared.answer.Version.{Version}
 use Rattle.report_text.specs.declared.answer.Version.TheVariants.{One, Two}
-use Rattle.report_text.proofs.JoinLaws.{pieces-join, join-pieces}
-use Rattle.report_text.proofs.NumberLaws.{Without-decimal, decimal-digits, first_digit}
-use Rattle.report_text.proofs.PiecesLaws.{pieces-some, pieces-cut}
-use Rattle.report_text.proofs.SpellLaws.{SpellsLine, nothing, then, after, only, told_as, then_of}
-use Rattle.report_text.proofs.TestedLaws.{Tested, tested_both, tested_as, tested_eq, tested_lt, tested_le, tested_list, tested_all}
-use Rattle.report_text.proofs.WordLaws.{numbers, sizes, arrays, size_of_array}
+use Rattle.report_text.proofs.Tools.{pieces-join, join-pieces, Without-decimal, decimal-digits, first_digit, pieces-some, pieces-cut, SpellsLine, nothing, then, after, only, told_as, then_of, Tested, tested_both, tested_as, tested_eq, tested_lt, tested_le, tested_list, tested_all, numbers, sizes, arrays, size_of_array}
 use Rattle.journal_text.specs.Bounds.{IsTarget, IsClose}
 use Rattle.journal_text.specs.Lines.{IsLead, target_words, question_words, close_words}
 use Rattle.journal_text.specs.Reading.{first_word, IsNumber, IsClosing, title_text, IsTitleLine, rails_text, IsRailsLine, IsQuestionLine, IsClosingLine, IsStepLine}

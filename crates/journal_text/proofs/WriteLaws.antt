@@ -9,9 +9,9 @@ use Rattle.lrat_replay.specs.LratText.{step_text}
 use Rattle.wire_io.specs.Causes.{HasCause}
 use Rattle.wire_io.specs.Passing.{Passes}
 use Rattle.wire_io.specs.Told.{Gains, GainsFront}
-use Rattle.wire_io.proofs.PassingLaws.{Passes-flushed, Passes-given, GainsFront-passed}
+use Rattle.wire_io.proofs.Tools.{Passes-flushed, Passes-given, GainsFront-passed}
 use Rattle.report_text.specs.Writing.{Puts}
-use Rattle.report_text.proofs.PutLaws.{puts_then, blanks_next}
+use Rattle.report_text.proofs.Tools.{puts_then, blanks_next}
 use Rattle.report_text.specs.declared.answer.Version.{Version}
 use Rattle.report_text.specs.declared.answer.Version.TheVariants.{One, Two}
 use Rattle.journal_text.specs.Lines.{line_text}

@@ -4,7 +4,7 @@ use Rattle.std.proofs.lemmas.Bool.{cases_order}
 use Rattle.std.proofs.lemmas.List.Elements.{All-nil, All-cons, All-head, All-tail}
 use Rattle.std.specs.Prelude.{All}
 use Rattle.std.specs.declared.option.Option.{Option}
-use Rattle.cube_core.proofs.MembersLaws.{below_or_above}
+use Rattle.cube_core.proofs.Tools.{below_or_above}
 
 -- it is so, or it is not
 abbrev pub IsDecided : Type 0 → Type 0

@@ -8,11 +8,10 @@ use Rattle.std.proofs.lemmas.List.Elements.{All-nil, All-push}
 use Rattle.std.proofs.lemmas.Option.{slice_get_within, slice_get-get_or}
 use Rattle.cube_core.specs.Function.{Function}
 use Rattle.cube_core.specs.Members.{Assignments, AllBelow}
-use Rattle.cube_core.proofs.MembersLaws.{complement_of-AllBelow}
+use Rattle.cube_core.proofs.Tools.{complement_of-AllBelow}
 use Rattle.lattice_grid.specs.Defects.{Defects}
 use Rattle.lattice_grid.specs.Lattice.{Lattice, IsLattice}
-use Rattle.path_meaning.proofs.Least.{at_least_one}
-use Rattle.path_meaning.proofs.Never.{never_both}
+use Rattle.path_meaning.proofs.Tools.{at_least_one, never_both}
 use Rattle.path_meaning.specs.Defective.{is_on_in, JoinedIn, RealisesIn}
 use Rattle.path_meaning.specs.Failing.{FailsIn, IsLeastFailureIn}
 use Rattle.pla_reader.specs.Marking.{AreBelow}
@@ -23,7 +22,7 @@ use Rattle.pla_reader.specs.Sets.{sets_of, off_of, function_of_sets, functions_t
 use Rattle.pla_reader.specs.declared.kind.Kind.{Kind}
 use Rattle.pla_reader.specs.declared.kind.Kind.TheVariants.{F, Fd, Fr, Fdr}
 use Rattle.pla_reader.specs.declared.marked.Marked.{Marked}
-use Rattle.pla_reader.proofs.SetsLaws.{AreBelow-sets_of, both}
+use Rattle.pla_reader.proofs.Tools.{AreBelow-sets_of, both}
 use Rattle.judged_texts.proofs.Decided.{IsDecided, true_or_not, none_or_first}
 
 -- Where the function is 1 and where it is 0 is below a number.

@@ -8,15 +8,15 @@ use Rattle.clause_core.specs.Formula.{Formula}
 use Rattle.clause_core.specs.CnfRead.{cnf_of}
 use Rattle.clause_core.specs.declared.refusal.CnfRefusal.{CnfRefusal}
 use Rattle.cube_core.specs.Function.{Function}
-use Rattle.cube_core.proofs.MembersLaws.{below_or_above}
+use Rattle.cube_core.proofs.Tools.{below_or_above}
 use Rattle.defect_array.specs.Reading.{Reads as ReadsArray}
-use Rattle.defect_array.proofs.ReadLaws.{either as array_or_none}
+use Rattle.defect_array.proofs.Tools.{either as array_or_none}
 use Rattle.journal_text.specs.Bounds.{IsJournal}
 use Rattle.journal_text.specs.Parts.{JournalParts}
 use Rattle.journal_text.specs.Text.{journal_text}
 use Rattle.journal_text.specs.Reading.{Gives as GivesJournal}
 use Rattle.journal_text.specs.declared.refusal.JournalRefusal.{JournalRefusal}
-use Rattle.journal_text.proofs.GivesLaws.{some_answer as some_journal_answer}
+use Rattle.journal_text.proofs.Tools.{some_answer as some_journal_answer}
 use Rattle.lattice_grid.specs.Defects.{Defects}
 use Rattle.lattice_grid.specs.Rectangle.{Size}
 use Rattle.lrat_replay.specs.LratRead.{lrat_of}
@@ -25,11 +25,11 @@ use Rattle.lrat_replay.specs.declared.line.Line.{Line}
 use Rattle.lrat_replay.specs.declared.refusal.LratRefusal.{LratRefusal}
 use Rattle.pla_reader.specs.Parts.{Parts}
 use Rattle.pla_reader.specs.Reading.{Reads, Refused as IsPlaRefused}
-use Rattle.pla_reader.proofs.SomeLaws.{some_reading}
+use Rattle.pla_reader.proofs.Tools.{some_reading}
 use Rattle.report_text.specs.Reading.{Gives}
 use Rattle.report_text.specs.Report.{ReportParts}
 use Rattle.report_text.specs.declared.report.ReportRefusal.{ReportRefusal}
-use Rattle.report_text.proofs.AnswerLaws.{some_answer}
+use Rattle.report_text.proofs.Tools.{some_answer}
 use Rattle.trial_text.specs.Reading.{IsMadeRead, parts_made}
 use Rattle.four_lattice.specs.Check.{IsAccepted, adds_empty, end_line}
 use Rattle.four_lattice.specs.Judge.{Texts, Task, Judgement, Refused, Accepted, Encoding, Realised, Refuted, Confirmed, Renewed, Minima, Placed, Tried, Stage, Test, Last, TextRefuses, as_pla, as_cnf, as_array, IsArrayRefused, IsCnfRefused, IsLratRefused, IsReportRefused, IsJournalRefused, LacksOutput, Denies, Unconfirms, LinesRefuse, EncodingComes, VerifyComes, CheckComes, JournalComes, MapComes, TrialComes, JobComes}

@@ -5,7 +5,7 @@ use Rattle.std.proofs.lemmas.List.Elements.{All-head, All-tail}
 use Rattle.std.specs.Prelude.{IfSome, All}
 use Rattle.std.specs.declared.option.Option.{Option}
 use Rattle.cube_core.specs.Function.{Function}
-use Rattle.cube_core.proofs.MembersLaws.{below_or_above}
+use Rattle.cube_core.proofs.Tools.{below_or_above}
 use Rattle.lattice_grid.specs.Control.{NamesBelow}
 use Rattle.lattice_grid.specs.declared.control.Control.{Control}
 use Rattle.lattice_grid.specs.declared.control.Control.TheVariants.{Zero, One, Plain, Bar}
@@ -18,7 +18,7 @@ use Rattle.report_text.specs.Form.{lattice_of}
 use Rattle.report_text.specs.Report.{BlockParts, ReportParts}
 use Rattle.report_text.specs.declared.answer.Answer.{Answer}
 use Rattle.report_text.specs.declared.answer.Answer.TheVariants.{Found, Minimum, Undecided, Mapped, NoneMapped, MapUndecided, NoRails}
-use Rattle.four_lattice.proofs.VerifiedLaws.{cut_front, cut_rest}
+use Rattle.four_lattice.proofs.Tools.{cut_front, cut_rest}
 use Rattle.four_lattice.specs.Verified.{Basis, basis_of, array_in, least_output, IsOf, IsRight, AreRight, line_after, IsBlockRefused, HasRefusedBlock, IsVerified, IsDenied}
 use Rattle.four_lattice.specs.declared.verify.VerifyRefusal.{VerifyRefusal}
 use Rattle.four_lattice.specs.declared.verify.VerifyRefusal.TheVariants.{Inputs, Output, Literal, Wrong}

@@ -10,10 +10,8 @@ use Rattle.lattice_grid.specs.Lattice.{Lattice, IsOver, is_on_at}
 use Rattle.lattice_grid.specs.Rails.{MayStand, IsOverRails}
 use Rattle.lattice_grid.specs.Realise.{Joined, Cut}
 use Rattle.lattice_grid.specs.Rectangle.{Size, IsSize}
-use Rattle.lattice_grid.proofs.DrawnLaws.{drawn_All}
-use Rattle.lattice_grid.proofs.NeighbourLaws.{place_eq}
-use Rattle.path_meaning.proofs.Least.{at_least_one}
-use Rattle.path_meaning.proofs.Never.{never_both}
+use Rattle.lattice_grid.proofs.Tools.{drawn_All, place_eq}
+use Rattle.path_meaning.proofs.Tools.{at_least_one, never_both}
 use Rattle.lattice_compose.specs.Both.{IsBoth, JoinsBoth}
 use Rattle.lattice_compose.specs.Pictures.{control_or, control_stacked}
 use Rattle.lattice_compose.proofs.CellLaws.{control_or-inside, control_or-beside, control_stacked-upper, control_stacked-between, control_stacked-lower, place_below, stacked_has}

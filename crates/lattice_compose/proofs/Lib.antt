@@ -1,6 +1,7 @@
-pub mod Lines
-pub mod Parts
-pub mod CellLaws
-pub mod EitherLaws
-pub mod BothLaws
-pub mod WithoutLaws
+mod Lines
+mod Parts
+mod CellLaws
+mod EitherLaws
+mod BothLaws
+mod WithoutLaws
+pub mod Tools

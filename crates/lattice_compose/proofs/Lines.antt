@@ -3,8 +3,8 @@ use Rattle.std.proofs.Common.{◌≡◌, ℕ, zero, suc, ◌+◌, ◌-◌, ◌<�
 use Rattle.std.proofs.lemmas.Bool.{cases_lt}
 use Rattle.lattice_grid.specs.declared.shape.Place.{Place}
 use Rattle.lattice_grid.specs.Path.{DifferByOne, AreFourNeighbours, AreEightNeighbours}
-use Rattle.lattice_grid.proofs.NeighbourLaws.{place_eq}
-use Rattle.path_meaning.proofs.Walks.{Walk, stop, next, join, last_good}
+use Rattle.lattice_grid.proofs.Tools.{place_eq}
+use Rattle.path_meaning.proofs.Tools.{Walk, stop, next, join, last_good}
 
 module _ (Good : Place → Type 0) (Near : Place → Place → Type 0) (line : ℕ → Place)
     (near : (k : ℕ) → Near (line k) (line (k + 1)) × Near (line (k + 1)) (line k)) (low high : ℕ) (good : (k : ℕ) → low ≤ k → k < high → Good (line k)) where

@@ -5,7 +5,7 @@ use Rattle.lattice_grid.specs.declared.shape.Place.{Place}
 use Rattle.lattice_grid.specs.Rectangle.{Size}
 use Rattle.lattice_grid.specs.Path.{IsWithin, AreFourNeighbours, AreEightNeighbours, JoinedBy, CutBy}
 use Rattle.path_meaning.specs.Closed.{IsOn, IsOff}
-use Rattle.path_meaning.proofs.Walks.{Walk, join, first_good, last_good, walk_from, path_from}
+use Rattle.path_meaning.proofs.Tools.{Walk, join, first_good, last_good, walk_from, path_from}
 use Rattle.lattice_compose.proofs.Lines.{along, linked, moved, shifted, four_below, four_beside, four_shifted, eight_shifted, eight_of_four}
 
 -- The smaller rectangle stands so far down and so far right in the larger one, cell by cell.

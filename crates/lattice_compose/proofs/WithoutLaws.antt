@@ -6,7 +6,7 @@ use Rattle.lattice_grid.specs.Drawn.{IsDrawn}
 use Rattle.lattice_grid.specs.Lattice.{Lattice, IsOver, control_at}
 use Rattle.lattice_grid.specs.Rails.{MayStand, IsOverRails}
 use Rattle.lattice_grid.specs.Rectangle.{Size}
-use Rattle.lattice_grid.proofs.DrawnLaws.{drawn_All}
+use Rattle.lattice_grid.proofs.Tools.{drawn_All}
 use Rattle.lattice_compose.proofs.CellLaws.{read_has}
 
 -- a lattice each of whose cells is a cell of another is over what the other is over

@@ -10,7 +10,7 @@ use Rattle.cube_core.specs.Assignment.{bit}
 use Rattle.cube_core.specs.Function.{Function, IsFunction}
 use Rattle.cube_core.specs.Members.{Assignments}
 use Rattle.cube_core.specs.Rising.{rising}
-use Rattle.cube_core.proofs.SetLaws.{empty_from_none}
+use Rattle.cube_core.proofs.Tools.{empty_from_none}
 use Rattle.lattice_grid.specs.declared.control.Control.{Control}
 use Rattle.lattice_grid.specs.declared.control.Control.TheVariants.{Zero, One, Plain, Bar}
 use Rattle.lattice_grid.specs.declared.shape.Place.{Place}

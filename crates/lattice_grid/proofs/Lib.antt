@@ -1,14 +1,15 @@
-pub mod Differences
-pub mod Lists
-pub mod RailsLaws
-pub mod PairsLaws
-pub mod RisingLaws
-pub mod PathLaws
-pub mod FindLaws
-pub mod ToldLaws
-pub mod RealiseLaws
-pub mod StartLaws
-pub mod ColumnsLaws
-pub mod NeighbourLaws
-pub mod DrawnLaws
-pub mod RepeatLaws
+mod Differences
+mod Lists
+mod RailsLaws
+mod PairsLaws
+mod RisingLaws
+mod PathLaws
+mod FindLaws
+mod ToldLaws
+mod RealiseLaws
+mod StartLaws
+mod ColumnsLaws
+mod NeighbourLaws
+mod DrawnLaws
+mod RepeatLaws
+pub mod Tools

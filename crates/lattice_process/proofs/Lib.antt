@@ -1,1 +1,1 @@
-pub mod LastLaws
+mod LastLaws

@@ -18,7 +18,7 @@ use Rattle.lrat_replay.specs.Learned.{EndsEmpty, SpentWritten, without_hints}
 use Rattle.lrat_replay.specs.New.{AreNew, IsOpen}
 use Rattle.lrat_replay.specs.declared.line.LineKind.TheVariants.{Add}
 use Rattle.lrat_replay.specs.declared.line.Step.{Step}
-use Rattle.lrat_replay.proofs.LearnedLaws.{steps-after_steps}
+use Rattle.lrat_replay.proofs.Tools.{steps-after_steps}
 use Rattle.reach_encoding.specs.Encoding.{Question, IsQuestion, encoding, HasSolution}
 use Rattle.reach_encoding.specs.Decode.{Chooses, IsAskedOf, IsChoosing}
 use Rattle.reach_encoding.specs.Solved.{lattice_read, IsRead, IsReadAsLattice, IsSolvedByLattices}

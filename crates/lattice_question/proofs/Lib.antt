@@ -1,3 +1,4 @@
 mod Closing
-pub mod Fronts
-pub mod Sections
+mod Fronts
+mod Sections
+pub mod Tools

@@ -7,7 +7,7 @@ use Rattle.std.proofs.lemmas.List.Elements.{recursion_from_All, Contains-append_
 use Rattle.std.proofs.lemmas.Map.Steps.{length-le_from_distinct_below}
 use Rattle.std.proofs.lemmas.Map.Keys.{IsDistinct-cons}
 use Rattle.clause_core.specs.Literal.{Literal, has}
-use Rattle.clause_core.proofs.Literals.{has-first}
+use Rattle.clause_core.proofs.Tools.{has-first}
 use Rattle.clause_core.specs.Formula.{IsOver}
 use Rattle.lrat_replay.specs.Book.{Book, Numbered, all_of, after_addition, some_flip, start, numbered}
 use Rattle.lrat_replay.specs.New.{IsSubset, AreAccepted, AreNew}

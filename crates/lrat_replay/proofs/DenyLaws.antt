@@ -7,7 +7,7 @@ use Rattle.std.proofs.lemmas.List.{take_more}
 use Rattle.std.proofs.lemmas.List.Elements.{All-push}
 use Rattle.clause_core.specs.Literal.{Literal, flip, same, has}
 use Rattle.clause_core.specs.Formula.{IsOver}
-use Rattle.clause_core.proofs.Literals.{flip-flip, same-true, same-at, same-flip, has-first, has-rest, has-cases}
+use Rattle.clause_core.proofs.Tools.{flip-flip, same-true, same-at, same-flip, has-first, has-rest, has-cases}
 use Rattle.lrat_replay.specs.Status.{with_literal}
 use Rattle.lrat_replay.specs.Hints.{FitsIn}
 use Rattle.lrat_replay.specs.declared.fault.StepFault.TheVariants.{Order, Variable, Tautology}

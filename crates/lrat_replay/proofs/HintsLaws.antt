@@ -3,7 +3,7 @@ use Rattle.std.proofs.Common.{◌≡◌, ℕ, ◌<◌, true, List, [], ◌∷◌
 use Rattle.std.specs.List.{AllByRecursion}
 use Rattle.std.proofs.lemmas.List.Elements.{recursion_from_All}
 use Rattle.clause_core.specs.Literal.{Literal, number, flip, has}
-use Rattle.clause_core.proofs.Literals.{has-cases}
+use Rattle.clause_core.proofs.Tools.{has-cases}
 use Rattle.lrat_replay.specs.Status.{Known, status}
 use Rattle.lrat_replay.specs.declared.status.Status.TheVariants.{Forces}
 use Rattle.lrat_replay.specs.Hints.{FitsIn}

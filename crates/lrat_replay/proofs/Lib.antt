@@ -1,19 +1,20 @@
-pub mod StatusLaws
-pub mod Runs
-pub mod Sound
-pub mod MarksLaws
-pub mod StatusSteps
-pub mod HintsLaws
-pub mod RisingLaws
-pub mod StoreLaws
-pub mod DeletionLaws
-pub mod DenyLaws
-pub mod ReplayLaws
-pub mod LratLaws
-pub mod ReadLaws
-pub mod StepLaws
-pub mod TallyLaws
-pub mod LearnedLaws
-pub mod SubsetLaws
-pub mod ListsLaws
-pub mod BudgetLaws
+mod StatusLaws
+mod Runs
+mod Sound
+mod MarksLaws
+mod StatusSteps
+mod HintsLaws
+mod RisingLaws
+mod StoreLaws
+mod DeletionLaws
+mod DenyLaws
+mod ReplayLaws
+mod LratLaws
+mod ReadLaws
+mod StepLaws
+mod TallyLaws
+mod LearnedLaws
+mod SubsetLaws
+mod ListsLaws
+mod BudgetLaws
+pub mod Tools

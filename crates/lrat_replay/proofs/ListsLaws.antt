@@ -7,7 +7,7 @@ use Rattle.std.proofs.lemmas.Option.{slice_get_within, get_or_from_slice_get}
 use Rattle.std.proofs.lemmas.List.{length-append, take_all, take_more, append-nil}
 use Rattle.clause_core.specs.Literal.{Literal, number, same, has}
 use Rattle.clause_core.specs.Formula.{Formula, IsOver}
-use Rattle.clause_core.proofs.Literals.{has-first, same-true}
+use Rattle.clause_core.proofs.Tools.{has-first, same-true}
 use Rattle.lrat_replay.specs.Status.{Known}
 use Rattle.lrat_replay.specs.Subset.{AreKnown, SomeAreKnown}
 use Rattle.lrat_replay.specs.Lists.{lead, lead_at, AreListed, IsListedStore, NoneOf}

@@ -4,7 +4,7 @@ use Rattle.std.proofs.lemmas.Bool.{or_cases, both_ways}
 use Rattle.lrat_replay.specs.declared.status.Status.{Status}
 use Rattle.lrat_replay.specs.declared.status.Status.TheVariants.{Satisfied, Unresolved, Forces, Conflict}
 use Rattle.clause_core.specs.Literal.{Literal, flip, same}
-use Rattle.clause_core.proofs.Literals.{same-true}
+use Rattle.clause_core.proofs.Tools.{same-true}
 use Rattle.lrat_replay.specs.Status.{Known, status, with_literal}
 use Rattle.lrat_replay.specs.Book.{Outcome, Accepted, Refused, Unfinished, run}
 use Rattle.lrat_replay.specs.declared.fault.StepFault.TheVariants.{Unknown, Loose}

@@ -6,7 +6,7 @@ use Rattle.std.proofs.lemmas.Bool.{cases_Bool, both_ways, true≢false, cond-fal
 use Rattle.std.specs.FinSet as set
 use Rattle.clause_core.specs.Literal.{Literal, flip, is_true, clause_is_true}
 use Rattle.clause_core.specs.Formula.{Formula, Satisfies}
-use Rattle.clause_core.proofs.Literals.{is_true-flip, clause_is_true-some, clause_is_true-none}
+use Rattle.clause_core.proofs.Tools.{is_true-flip, clause_is_true-some, clause_is_true-none}
 use Rattle.lrat_replay.specs.Book.{Book, Numbered, numbered, all_of, find, live, last_id, Outcome, Accepted, Refused, Unfinished, denied, run, fault_of_outcome, some_flip, some_above, addition_fault, after_deletion, line_fault, after_line, start, Accepts}
 use Rattle.lrat_replay.specs.Laws.{IsSound, IsRefutationSound}
 use Rattle.lrat_replay.specs.declared.line.Step.{Step}

@@ -4,7 +4,7 @@ use Rattle.std.proofs.lemmas.Bool.{cases_Bool, or_cases, or_parts, or_from, and_
 use Rattle.lrat_replay.specs.declared.status.Status.{Status}
 use Rattle.lrat_replay.specs.declared.status.Status.TheVariants.{Satisfied, Unresolved, Forces, Conflict}
 use Rattle.clause_core.specs.Literal.{Literal, flip, same, has}
-use Rattle.clause_core.proofs.Literals.{same-true, same-at, has-first, has-rest, has-cases}
+use Rattle.clause_core.proofs.Tools.{same-true, same-at, has-first, has-rest, has-cases}
 use Rattle.lrat_replay.specs.Status.{IsSatisfied, IsUnresolved, HasTwoNotFalse, Rests, IsUnit, IsConflict, Known, some_known, without_value, all_same, status_by, status}
 
 module _ (known : Known) where

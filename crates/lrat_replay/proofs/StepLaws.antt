@@ -15,8 +15,7 @@ use Rattle.clause_core.specs.Number.{number_of, is_zero}
 use Rattle.clause_core.specs.Text.{words_of}
 use Rattle.clause_core.specs.Cnf.{literal_text, literals_text}
 use Rattle.clause_core.specs.CnfRead.{literal_from}
-use Rattle.clause_core.proofs.NumberLaws.{prints, prints-apart, IsPrinted, signed_printed, number_of-signed, number_from}
-use Rattle.clause_core.proofs.PrintedLaws.{IsWord, IsSmall, printed-word, words-next, number_of-literal, number_of_literal, zero_number, words-literals, literal_printed, split-literals, literals-back}
+use Rattle.clause_core.proofs.Tools.{prints, prints-apart, IsPrinted, signed_printed, number_of-signed, number_from, IsWord, IsSmall, printed-word, words-next, number_of-literal, number_of_literal, zero_number, words-literals, literal_printed, split-literals, literals-back}
 use Rattle.lrat_replay.specs.declared.line.Step.{Step}
 use Rattle.lrat_replay.specs.declared.line.LineKind.TheVariants.{Add}
 use Rattle.lrat_replay.specs.LratRead.{if_small, small_number, value_of, is_mark, both, numbers_in, cut_in, addition_from, deletion_from, behind, front_of, kind_from, kind_of}

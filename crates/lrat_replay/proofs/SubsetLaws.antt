@@ -4,7 +4,7 @@ use Rattle.std.specs.List.{Contains}
 use Rattle.std.proofs.lemmas.Bool.{eqb-true, cases_Bool, or_cases, both_ways, true≢false}
 use Rattle.std.proofs.lemmas.List.Elements.{Contains-append_right}
 use Rattle.clause_core.specs.Literal.{Literal, same, has}
-use Rattle.clause_core.proofs.Literals.{same-true}
+use Rattle.clause_core.proofs.Tools.{same-true}
 use Rattle.lrat_replay.specs.Status.{Known, with_literal}
 use Rattle.lrat_replay.specs.Subset.{AreKnown, SomeAreKnown}
 use Rattle.lrat_replay.specs.Store.{clauses_of}

@@ -9,7 +9,7 @@ use Rattle.lattice_grid.specs.declared.shape.Place.{Place}
 use Rattle.lattice_grid.specs.Rectangle.{Size}
 use Rattle.lattice_grid.specs.Path.{IsWithin, AreFourNeighbours, JoinedBy, CutBy}
 use Rattle.lattice_grid.specs.Neighbours.{near_cell, has_near}
-use Rattle.lattice_grid.proofs.NeighbourLaws.{IsNear, IsNear-read, has_near-from, near_cell-is}
+use Rattle.lattice_grid.proofs.Tools.{IsNear, IsNear-read, has_near-from, near_cell-is}
 use Rattle.path_meaning.specs.Closed.{IsOn}
 use Rattle.path_meaning.specs.Stamps.{Stamps, pushed, index_of, is_marked, visited, visited_near, spread, left_of, Pops}
 use Rattle.path_meaning.specs.Flood.{IsReached, IsDone, IsFlood, NoCell, TopIsMarked, IsFresh}

@@ -4,8 +4,7 @@ use Rattle.lattice_grid.specs.Control.{value_of}
 use Rattle.lattice_grid.specs.Lattice.{Lattice, control_at, is_on_at}
 use Rattle.lattice_grid.specs.Rectangle.{Size, FitsInside}
 use Rattle.lattice_grid.specs.Repeated.{nearest}
-use Rattle.lattice_grid.proofs.DrawnLaws.{picture, picture-IsDrawn}
-use Rattle.lattice_grid.proofs.RepeatLaws.{IsRepeated-drawn, names_drawn, stands_drawn}
+use Rattle.lattice_grid.proofs.Tools.{picture, picture-IsDrawn, IsRepeated-drawn, names_drawn, stands_drawn}
 use Rattle.path_meaning.specs.Fitting.{IsRepeatJoined, IsRealisedLarger}
 use Rattle.path_meaning.proofs.Fits.{fitting}
 

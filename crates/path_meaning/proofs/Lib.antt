@@ -1,16 +1,17 @@
-pub mod Walks
-pub mod Steps
-pub mod Never
-pub mod Reach
-pub mod Borders
-pub mod Decisions
-pub mod Closed
-pub mod Sides
-pub mod Least
-pub mod Refuted
-pub mod Fits
-pub mod Examples
-pub mod StampLaws
-pub mod FloodLaws
-pub mod Larger
-pub mod Plainly
+mod Walks
+mod Steps
+mod Never
+mod Reach
+mod Borders
+mod Decisions
+mod Closed
+mod Sides
+mod Least
+mod Refuted
+mod Fits
+mod Examples
+mod StampLaws
+mod FloodLaws
+mod Larger
+mod Plainly
+pub mod Tools

@@ -1,13 +1,14 @@
-pub mod NamesLaws
-pub mod NameLaws
-pub mod LinesLaws
-pub mod NumberLaws
-pub mod SetsLaws
-pub mod StateLaws
-pub mod WordsLaws
-pub mod ReachLaws
-pub mod FinalLaws
-pub mod AnswersLaws
-pub mod SomeLaws
-pub mod PlainTextLaws
-pub mod PlainReadingLaws
+mod NamesLaws
+mod NameLaws
+mod LinesLaws
+mod NumberLaws
+mod SetsLaws
+mod StateLaws
+mod WordsLaws
+mod ReachLaws
+mod FinalLaws
+mod AnswersLaws
+mod SomeLaws
+mod PlainTextLaws
+mod PlainReadingLaws
+pub mod Tools

@@ -13,9 +13,7 @@ use Rattle.std.specs.FinSet as set
 use Rattle.cube_core.specs.Members.{Assignments, passing_below, AllBelow, AreDisjoint, IsLeast}
 use Rattle.cube_core.specs.Cube.{Product, in_cube, members_of_cube, HasLiterals}
 use Rattle.cube_core.specs.Function.{Function, IsFunction}
-use Rattle.cube_core.proofs.CubeLaws.{contains-members_of_cube}
-use Rattle.cube_core.proofs.LiteralLaws.{in_cube-HasLiterals}
-use Rattle.cube_core.proofs.MembersLaws.{contains-passing_below, passing_below-AllBelow, complement_of-AllBelow, complement_of-AreDisjoint}
+use Rattle.cube_core.proofs.Tools.{contains-members_of_cube, in_cube-HasLiterals, contains-passing_below, passing_below-AllBelow, complement_of-AllBelow, complement_of-AreDisjoint}
 use Rattle.pla_reader.specs.declared.kind.Kind.{Kind}
 use Rattle.pla_reader.specs.declared.kind.Kind.TheVariants.{F, Fd, Fr, Fdr}
 use Rattle.pla_reader.specs.declared.marked.Marked.{Marked}

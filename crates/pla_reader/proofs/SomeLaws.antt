@@ -4,7 +4,7 @@ use Rattle.std.specs.Prelude.{◌^◌, ◌&&◌}
 use Rattle.std.specs.FinSet as set
 use Rattle.std.specs.Cmp.{nat_cmp_total}
 use Rattle.cube_core.specs.Members.{Assignments, AllBelow, AreDisjoint, IsLeast}
-use Rattle.cube_core.proofs.MembersLaws.{passing_below-AllBelow, below_or_above}
+use Rattle.cube_core.proofs.Tools.{passing_below-AllBelow, below_or_above}
 use Rattle.pla_reader.specs.declared.fault.LineFault.{LineFault}
 use Rattle.pla_reader.specs.declared.kind.Kind.{Kind}
 use Rattle.pla_reader.specs.declared.pla.PlaRefusal.{PlaRefusal}

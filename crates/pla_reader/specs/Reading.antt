@@ -10,7 +10,7 @@ use Rattle.pla_reader.specs.declared.pla.PlaRefusal.TheVariants.{TooLong, BadByt
 use Rattle.pla_reader.specs.declared.marked.Marked.{Marked}
 use Rattle.pla_reader.specs.Lines.{Line, lines_of, line_length}
 use Rattle.pla_reader.specs.Says.{Said, said_by}
-use Rattle.pla_reader.specs.Says.Said.{Silent, Ends}
+use Rattle.pla_reader.specs.Says.Said.{Spoiled, Silent, Unknown, Foreign, GivesInputs, GivesOutputs, GivesKind, NamesInputs, NamesOutputs, GivesRow, Ends}
 use Rattle.pla_reader.specs.Given.{first_said, input_names_said, output_names_said, rows_of, inputs_of, outputs_of, are_given, kind_of_lines}
 use Rattle.pla_reader.specs.Faults.{fault_after}
 use Rattle.pla_reader.specs.Sets.{sets_of, functions_to}
@@ -18,8 +18,17 @@ use Rattle.pla_reader.specs.Names.{default_names}
 use Rattle.pla_reader.specs.Parts.{Parts}
 
 abbrev pub is_end : Said → Bool
+is_end Spoiled = false
+is_end Silent = false
+is_end Unknown = false
+is_end Foreign = false
+is_end (GivesInputs number) = false
+is_end (GivesOutputs number) = false
+is_end (GivesKind kind) = false
+is_end (NamesInputs names) = false
+is_end (NamesOutputs names) = false
+is_end (GivesRow digits) = false
 is_end Ends = true
-is_end _ = false
 
 -- the lines up to the one that ends the PLA, with it; all lines where none does
 abbrev pub through_end : List Line → List Line

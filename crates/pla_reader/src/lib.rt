@@ -1,16 +1,16 @@
 //! PLA texts: what they hold, and what that means.
 #![tactic(auto)]
 
-pub mod fault;
-pub mod given;
+mod fault;
+mod given;
 pub mod kind;
 pub mod laws;
-pub mod line;
+mod line;
 pub mod marked;
 pub mod name;
-pub mod names;
-pub mod number;
+mod names;
+mod number;
 pub mod pla;
-pub mod row;
-pub mod saying;
-pub mod word;
+mod row;
+mod saying;
+mod word;

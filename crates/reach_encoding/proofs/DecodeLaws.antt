@@ -10,10 +10,9 @@ use Rattle.lattice_grid.specs.declared.control.Control.TheVariants.{Zero}
 use Rattle.lattice_grid.specs.Lattice.{Lattice}
 use Rattle.lattice_grid.specs.Rails.{MayStand, IsOverRails, controls_of}
 use Rattle.lattice_grid.specs.Rectangle.{Size}
-use Rattle.lattice_grid.proofs.Differences.{least_from-first}
+use Rattle.lattice_grid.proofs.Tools.{least_from-first, control_at_number, MayStand-NamesBelow}
 use Rattle.std.specs.Prelude.{All}
 use Rattle.lattice_grid.specs.Control.{NamesBelow}
-use Rattle.lattice_grid.proofs.RailsLaws.{control_at_number, MayStand-NamesBelow}
 use Rattle.path_meaning.specs.Defective.{RealisesIn}
 use Rattle.reach_encoding.specs.Encoding.{Question, IsQuestion, controls, many_controls, asked, below, encoding}
 use Rattle.reach_encoding.specs.Solved.{lattice_read}

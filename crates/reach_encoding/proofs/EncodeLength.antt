@@ -12,8 +12,7 @@ use Rattle.lattice_grid.specs.declared.array.Defect.TheVariants.{Sound, StuckOpe
 use Rattle.lattice_grid.specs.declared.shape.Place.{Place}
 use Rattle.lattice_grid.specs.Neighbours.{near_cell, has_near, near_of, four_of, eight_of}
 use Rattle.lattice_grid.specs.Rectangle.{Size}
-use Rattle.lattice_grid.proofs.NeighbourLaws.{IsNear-read}
-use Rattle.lattice_grid.proofs.RailsLaws.{some_controls}
+use Rattle.lattice_grid.proofs.Tools.{IsNear-read, some_controls}
 use Rattle.path_meaning.specs.Defective.{defect_in}
 use Rattle.reach_encoding.specs.Encoding.{Question, below, asked_at, cells_of, many_controls, many_asked, place_of, number_of, choices, values_with, values, closed_marks, top, bottom, left, right, next_four, next_eight, marks_at, marks, encoding}
 use Rattle.reach_encoding.specs.EncodeParts.{vars_of, IsAsked, Adds, HasRoom, choice_clause, value_clause, stuck_clause, start_clause, step_clause, end_clause}

@@ -3,8 +3,7 @@ use Rattle.std.proofs.Common.{◌≡◌, ℕ, ◌+◌, ◌*◌, ◌≤◌, ◌<�
 use Rattle.clause_core.specs.Literal.{Literal}
 use Rattle.std.proofs.lemmas.Nat.{mul-add-lt, mul-le}
 use Rattle.std.specs.FinSet as set
-use Rattle.lattice_grid.proofs.RailsLaws.{length-controls_of}
-use Rattle.lattice_grid.proofs.RisingLaws.{length-rising_few}
+use Rattle.lattice_grid.proofs.Tools.{length-controls_of, length-rising_few}
 use Rattle.reach_encoding.specs.Encoding.{Question, cells_of, many_controls, many_asked, choice, value, mark}
 use Rattle.reach_encoding.specs.EncodeParts.{vars_of, IsAsked, IsOneOf}
 

@@ -18,8 +18,7 @@ use Rattle.lattice_grid.specs.declared.shape.Place.{Place}
 use Rattle.lattice_grid.specs.Rectangle.{Size}
 use Rattle.lattice_grid.specs.Path.{IsWithin, AreFourNeighbours, AreEightNeighbours}
 use Rattle.lattice_grid.specs.Neighbours.{HasNeighbours, four_of, eight_of}
-use Rattle.lattice_grid.proofs.NeighbourLaws.{place_eq, four_neighbours, eight_neighbours}
-use Rattle.lattice_grid.proofs.RisingLaws.{HasPlace-rising, All-rising}
+use Rattle.lattice_grid.proofs.Tools.{place_eq, four_neighbours, eight_neighbours, HasPlace-rising, All-rising}
 use Rattle.cube_core.specs.Function.{Function, IsFunction}
 use Rattle.reach_encoding.specs.Encoding.{Question, below, asked_at, cells_of, many_controls, many_asked, choice, value, mark, yes, no, is_valued, control_of, place_of, number_of, top, bottom, left, right, next_four, next_eight, choices, values_with, values, closed_marks, marks_at, marks, encoding}
 

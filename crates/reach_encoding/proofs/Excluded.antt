@@ -1,6 +1,5 @@
 -- What a formula without solutions excludes, and that formulas are small enough.
-use Rattle.path_meaning.proofs.Larger.{realised_larger}
-use Rattle.path_meaning.proofs.Plainly.{realised_plainly}
+use Rattle.path_meaning.proofs.Tools.{realised_larger, realised_plainly}
 use Rattle.reach_encoding.specs.Encoding.{Question, IsQuestion, encoding}
 use Rattle.reach_encoding.specs.EncodeParts.{IsAsked}
 use Rattle.reach_encoding.specs.Solved.{IsExcludedBelow, IsSmallEnough, question_of}

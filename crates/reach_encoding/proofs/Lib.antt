@@ -1,18 +1,19 @@
-pub mod ModelLists
-pub mod ModelNumbers
-pub mod ModelSides
-pub mod ModelClauses
-pub mod ModelSets
-pub mod ModelLaws
-pub mod EncodingLaws
-pub mod ReadLaws
-pub mod Excluded
-pub mod DecodeLaws
-pub mod EncodeCells
-pub mod EncodeLength
-pub mod EncodeLists
-pub mod EncodeNumbers
-pub mod ModelOfFlood
-pub mod ModelOfLattice
-pub mod ModelOfStarts
-pub mod ModelOfTables
+mod ModelLists
+mod ModelNumbers
+mod ModelSides
+mod ModelClauses
+mod ModelSets
+mod ModelLaws
+mod EncodingLaws
+mod ReadLaws
+mod Excluded
+mod DecodeLaws
+mod EncodeCells
+mod EncodeLength
+mod EncodeLists
+mod EncodeNumbers
+mod ModelOfFlood
+mod ModelOfLattice
+mod ModelOfStarts
+mod ModelOfTables
+pub mod Tools

@@ -13,7 +13,7 @@ use Rattle.lattice_grid.specs.declared.shape.Place.{Place}
 use Rattle.lattice_grid.specs.Control.{value_of}
 use Rattle.lattice_grid.specs.Lattice.{Lattice, control_at}
 use Rattle.lattice_grid.specs.Rails.{IsOverRails}
-use Rattle.lattice_grid.proofs.RailsLaws.{stands_at}
+use Rattle.lattice_grid.proofs.Tools.{stands_at}
 use Rattle.lattice_grid.specs.Path.{IsWithin, AreFourNeighbours, AreEightNeighbours}
 use Rattle.lattice_grid.specs.Rectangle.{IsSize}
 use Rattle.path_meaning.specs.Defective.{IsRealisedIn, is_on_in, with_defect, defect_in}

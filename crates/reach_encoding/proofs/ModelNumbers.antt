@@ -8,9 +8,8 @@ use Rattle.lattice_grid.specs.declared.control.Control.TheVariants.{Zero, One, P
 use Rattle.lattice_grid.specs.declared.shape.Place.{Place}
 use Rattle.lattice_grid.specs.Path.{IsWithin}
 use Rattle.lattice_grid.specs.Rectangle.{Size}
-use Rattle.lattice_grid.proofs.NeighbourLaws.{place_eq}
+use Rattle.lattice_grid.proofs.Tools.{place_eq, controls-Contains}
 use Rattle.lattice_grid.specs.Rails.{MayStand, controls_of}
-use Rattle.lattice_grid.proofs.RailsLaws.{controls-Contains}
 use Rattle.reach_encoding.specs.Encoding.{place_of, number_of}
 use Rattle.reach_encoding.specs.ModelOf.{is_control}
 

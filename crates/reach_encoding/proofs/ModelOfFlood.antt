@@ -11,9 +11,9 @@ use Rattle.lattice_grid.specs.declared.shape.Place.{Place}
 use Rattle.lattice_grid.specs.Neighbours.{HasNeighbours}
 use Rattle.lattice_grid.specs.Path.{IsWithin}
 use Rattle.lattice_grid.specs.Rectangle.{Size}
-use Rattle.lattice_grid.proofs.NeighbourLaws.{place_eq, four_neighbours, eight_neighbours}
+use Rattle.lattice_grid.proofs.Tools.{place_eq, four_neighbours, eight_neighbours}
 use Rattle.path_meaning.specs.Closed.{IsOn}
-use Rattle.path_meaning.proofs.Walks.{Walk, stop, next, join, last_good, walk_from, path_from}
+use Rattle.path_meaning.proofs.Tools.{Walk, stop, next, join, last_good, walk_from, path_from}
 use Rattle.reach_encoding.specs.declared.flood.Side.{Side}
 use Rattle.reach_encoding.specs.declared.flood.Side.TheVariants.{Down, Across}
 use Rattle.reach_encoding.specs.Encoding.{number_of}

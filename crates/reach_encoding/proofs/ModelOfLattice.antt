@@ -14,14 +14,12 @@ use Rattle.lattice_grid.specs.Defects.{Defects}
 use Rattle.lattice_grid.specs.declared.control.Control.TheVariants.{Zero}
 use Rattle.lattice_grid.specs.Lattice.{Lattice, control_at}
 use Rattle.lattice_grid.specs.Rails.{IsOverRails}
-use Rattle.lattice_grid.proofs.RailsLaws.{length-controls_of}
+use Rattle.lattice_grid.proofs.Tools.{length-controls_of, length-rising_few}
 use Rattle.lattice_grid.specs.Path.{IsWithin, AreFourNeighbours, AreEightNeighbours, JoinedBy, CutBy}
 use Rattle.lattice_grid.specs.Rectangle.{Size, IsSize}
-use Rattle.lattice_grid.proofs.RisingLaws.{length-rising_few}
 use Rattle.path_meaning.specs.Closed.{IsOn, StopsBelow, StopsBeside}
 use Rattle.path_meaning.specs.Defective.{RealisesIn, is_on_in}
-use Rattle.path_meaning.proofs.Never.{never_both}
-use Rattle.path_meaning.proofs.Walks.{Walk, stop, next, walk_from, path_from}
+use Rattle.path_meaning.proofs.Tools.{never_both, Walk, stop, next, walk_from, path_from}
 use Rattle.reach_encoding.specs.declared.flood.Side.{Side}
 use Rattle.reach_encoding.specs.declared.flood.Side.TheVariants.{Down, Across}
 use Rattle.reach_encoding.specs.Encoding.{Question, controls, asked, asked_at, cells_of, many_controls, many_asked, choice, value, mark, below, place_of, number_of, encoding}

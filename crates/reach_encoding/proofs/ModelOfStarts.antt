@@ -6,7 +6,7 @@ use Rattle.std.proofs.lemmas.List.Elements.{Contains-push, Contains-push_cases, 
 use Rattle.lattice_grid.specs.declared.shape.Place.{Place}
 use Rattle.lattice_grid.specs.Path.{IsWithin}
 use Rattle.lattice_grid.specs.Rectangle.{Size}
-use Rattle.lattice_grid.proofs.NeighbourLaws.{place_eq}
+use Rattle.lattice_grid.proofs.Tools.{place_eq}
 use Rattle.reach_encoding.proofs.ModelOfFlood.{none_contained}
 
 -- the first n cells of the top row, and of the left column

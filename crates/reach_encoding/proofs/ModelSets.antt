@@ -8,11 +8,10 @@ use Rattle.lattice_grid.specs.declared.shape.Place.{Place}
 use Rattle.lattice_grid.specs.Lattice.{Lattice}
 use Rattle.lattice_grid.specs.Path.{IsWithin, AreFourNeighbours, AreEightNeighbours, JoinedBy}
 use Rattle.lattice_grid.specs.Rectangle.{Size}
-use Rattle.lattice_grid.proofs.RisingLaws.{All-rising}
+use Rattle.lattice_grid.proofs.Tools.{All-rising}
 use Rattle.path_meaning.specs.Closed.{StopsBelow, StopsBeside}
 use Rattle.path_meaning.specs.Defective.{RealisesIn, is_on_in}
-use Rattle.path_meaning.proofs.Never.{never_both}
-use Rattle.path_meaning.proofs.Refuted.{joined_refuted, cut_refuted}
+use Rattle.path_meaning.proofs.Tools.{never_both, joined_refuted, cut_refuted}
 use Rattle.reach_encoding.specs.Encoding.{Question, asked_at, many_asked}
 use Rattle.reach_encoding.proofs.ModelLists.{choose_below}
 

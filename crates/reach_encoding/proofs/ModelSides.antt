@@ -6,7 +6,7 @@ use Rattle.lattice_grid.specs.declared.shape.Place.{Place}
 use Rattle.lattice_grid.specs.Neighbours.{four_of, eight_of, HasNeighbours}
 use Rattle.lattice_grid.specs.Path.{AreFourNeighbours, AreEightNeighbours}
 use Rattle.lattice_grid.specs.Rectangle.{Size, IsSize}
-use Rattle.lattice_grid.proofs.NeighbourLaws.{four_neighbours, eight_neighbours}
+use Rattle.lattice_grid.proofs.Tools.{four_neighbours, eight_neighbours}
 use Rattle.reach_encoding.specs.Encoding.{place_of, number_of, top, bottom, left, right}
 use Rattle.reach_encoding.proofs.ModelLists.{All-below, All-map_of, All-map_below}
 use Rattle.reach_encoding.proofs.ModelNumbers.{cell_numbered}

@@ -11,12 +11,11 @@ use Rattle.lattice_grid.specs.declared.shape.Place.{Place}
 use Rattle.lattice_grid.specs.Control.{value_of}
 use Rattle.lattice_grid.specs.Lattice.{IsLattice, control_at}
 use Rattle.lattice_grid.specs.Rails.{MayStand, IsOverRails}
-use Rattle.lattice_grid.proofs.RailsLaws.{control_at_number, MayStand-NamesBelow}
+use Rattle.lattice_grid.proofs.Tools.{control_at_number, MayStand-NamesBelow}
 use Rattle.lattice_grid.specs.Path.{IsWithin}
 use Rattle.path_meaning.specs.Closed.{StopsBelow, StopsBeside}
 use Rattle.path_meaning.specs.Defective.{RealisesIn, IsRealisedIn, JoinedIn, is_on_in, defect_in, with_defect}
-use Rattle.path_meaning.proofs.Least.{either_or}
-use Rattle.path_meaning.proofs.Refuted.{joined_refuted, cut_refuted}
+use Rattle.path_meaning.proofs.Tools.{either_or, joined_refuted, cut_refuted}
 use Rattle.reach_encoding.specs.Encoding.{Question, IsQuestion, below, asked_at, cells_of, many_controls, many_asked, choice, value, mark, yes, control_of, place_of, number_of, top, bottom, left, right, next_four, next_eight, closed_marks, encoding, HasSolution}
 use Rattle.reach_encoding.specs.Solved.{IsReadAsLattice, lattice_read, first_chosen}
 use Rattle.reach_encoding.proofs.EncodingLaws.{HasParts, parts_from_satisfied, AllTrue, IsClosed, closed_from_true, values_from_true, some_from_true, map-Contains, below-Contains, yes-true, number_below, place-number, Contains-top, Contains-bottom, Contains-left, Contains-right, Contains-next_four, Contains-next_eight, asked_found, not_on_from_off}

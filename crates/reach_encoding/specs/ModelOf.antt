@@ -81,10 +81,21 @@ answered f rails g array = record { function = f; rails = rails; size = g.size; 
 -- whether two controls are the same
 abbrev pub is_control : Control → Control → Bool
 is_control Zero Zero = true
+is_control Zero One = false
+is_control Zero (Plain j) = false
+is_control Zero (Bar j) = false
+is_control One Zero = false
 is_control One One = true
+is_control One (Plain j) = false
+is_control One (Bar j) = false
+is_control (Plain i) Zero = false
+is_control (Plain i) One = false
 is_control (Plain i) (Plain j) = i == j
+is_control (Plain i) (Bar j) = false
+is_control (Bar i) Zero = false
+is_control (Bar i) One = false
+is_control (Bar i) (Plain j) = false
 is_control (Bar i) (Bar j) = i == j
-is_control _ _ = false
 
 -- for each of some controls whether it is the one that stands
 abbrev pub control_row : List Control → Control → List Bool

@@ -1,29 +1,30 @@
-pub mod PiecesLaws
-pub mod CutLaws
-pub mod NumberLaws
-pub mod SizeLaws
-pub mod TestedLaws
-pub mod SpellLaws
-pub mod JoinLaws
-pub mod RowsLaws
-pub mod WordLaws
-pub mod FormLaws
-pub mod MeetsLaws
-pub mod LeadLaws
-pub mod FeedLaws
-pub mod StopLaws
-pub mod WholeLaws
-pub mod MemberLaws
-pub mod SameLaws
-pub mod InnerLaws
-pub mod AnswerLaws
-pub mod ItemsLaws
-pub mod LinesLaws
-pub mod TitleLaws
-pub mod PartLaws
-pub mod CellsLaws
-pub mod NamesLaws
-pub mod PutLaws
-pub mod BlockLaws
-pub mod BlocksLaws
-pub mod ReportLaws
+mod PiecesLaws
+mod CutLaws
+mod NumberLaws
+mod SizeLaws
+mod TestedLaws
+mod SpellLaws
+mod JoinLaws
+mod RowsLaws
+mod WordLaws
+mod FormLaws
+mod MeetsLaws
+mod LeadLaws
+mod FeedLaws
+mod StopLaws
+mod WholeLaws
+mod MemberLaws
+mod SameLaws
+mod InnerLaws
+mod AnswerLaws
+mod ItemsLaws
+mod LinesLaws
+mod TitleLaws
+mod PartLaws
+mod CellsLaws
+mod NamesLaws
+mod PutLaws
+mod BlockLaws
+mod BlocksLaws
+mod ReportLaws
+pub mod Tools

@@ -9,7 +9,7 @@ use Rattle.std.proofs.lemmas.List.{append-nil, length-take-le, drop_all, drop-dr
 use Rattle.wire_io.specs.Causes.{HasCause, Rose}
 use Rattle.wire_io.specs.Passing.{Passes}
 use Rattle.wire_io.specs.Told.{Gains, GainsFront}
-use Rattle.wire_io.proofs.PassingLaws.{Passes-none, Passes-append, Passes-front, GainsFront-passed, GainsFront-first, GainsFront-emptied, Passes-all, Passes-all_front, Passes-flat_map, Passes-flat_map_front, IsPassed, IsPassed-none, IsPassed-more, IsPassed-stop, IsPassed-done}
+use Rattle.wire_io.proofs.Tools.{Passes-none, Passes-append, Passes-front, GainsFront-passed, GainsFront-first, GainsFront-emptied, Passes-all, Passes-all_front, Passes-flat_map, Passes-flat_map_front, IsPassed, IsPassed-none, IsPassed-more, IsPassed-stop, IsPassed-done}
 use Rattle.std.proofs.Math.Nat.{mul-le-mul_right}
 use Rattle.lattice_grid.specs.declared.array.Defect.{Defect}
 use Rattle.lattice_grid.specs.declared.array.Defect.TheVariants.{Sound}

@@ -1,1 +1,1 @@
-pub mod StairLaws
+mod StairLaws

@@ -1,2 +1,2 @@
-pub mod Drawing
-pub mod ReadingLaws
+mod Drawing
+mod ReadingLaws

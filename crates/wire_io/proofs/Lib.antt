@@ -1,2 +1,3 @@
-pub mod PassingLaws
-pub mod ReadingLaws
+mod PassingLaws
+mod ReadingLaws
+pub mod Tools

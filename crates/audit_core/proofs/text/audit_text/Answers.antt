@@ -1,7 +1,7 @@
 use Rattle.std.proofs.Common.{◌≡◌, map, refl, arith, rules}
 use Rattle.pla_reader.specs.Parts.{parts_of}
 use Rattle.journal_text.specs.Parts.{part_of}
-use Rattle.journal_text.proofs.CursorLaws.{passed_shorter}
+use Rattle.journal_text.proofs.Tools.{passed_shorter}
 use Rattle.audit_core.proofs.TextLaws.{auditing_begun, auditing_room, auditing_few, auditing_all, auditing_refused, auditing_more, passed_room, stops_behind}
 use Rattle.audit_core.proofs.text.audit_text.Goals as goal
 

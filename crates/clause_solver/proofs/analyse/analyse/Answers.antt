@@ -3,7 +3,7 @@ use Rattle.std.specs.Prelude.{slice_get}
 use Rattle.clause_core.specs.Literal.{has}
 use Rattle.lrat_replay.specs.Marks.{known_of, room}
 use Rattle.lrat_replay.specs.Book.{run, denied, Accepted}
-use Rattle.lrat_replay.proofs.DenyLaws.{fits_over}
+use Rattle.lrat_replay.proofs.Tools.{fits_over}
 use Rattle.clause_solver.specs.Plain.{at_of}
 use Rattle.clause_solver.proofs.Propagation.{all_over, get_inside}
 use Rattle.clause_solver.proofs.AnalyseLaws.{last, same_at, AreNumbers, numbers_reverse}

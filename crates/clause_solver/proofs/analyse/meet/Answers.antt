@@ -1,7 +1,7 @@
 use Rattle.std.proofs.Common.{ap, ◌∙◌}
 use Rattle.std.proofs.lemmas.Bool.{or_left, or_right}
 use Rattle.clause_core.specs.Literal.{same}
-use Rattle.clause_core.proofs.Literals.{same-refl}
+use Rattle.clause_core.proofs.Tools.{same-refl}
 use Rattle.lrat_replay.specs.Marks.{known_of}
 use Rattle.clause_solver.proofs.analyse.meet.Goals as goal
 

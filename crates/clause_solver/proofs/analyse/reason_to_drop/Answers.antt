@@ -1,6 +1,6 @@
 use Rattle.std.proofs.Common.{◌-◌}
 use Rattle.lrat_replay.specs.Marks.{room}
-use Rattle.lrat_replay.proofs.DenyLaws.{fits_over}
+use Rattle.lrat_replay.proofs.Tools.{fits_over}
 use Rattle.clause_solver.proofs.Propagation.{all_over}
 use Rattle.clause_solver.proofs.analyse.reason_to_drop.Goals as goal
 

@@ -2,7 +2,7 @@ use Rattle.std.proofs.Common.{◌≡◌, ℕ, ◌+◌, ◌∙◌, refl, sym, sub
 use Rattle.std.specs.declared.result.Result.{Result}
 use Rattle.wire_io.specs.declared.fault.NoMemory.{NoMemory}
 use Rattle.lrat_replay.specs.Status.{IsUnit}
-use Rattle.lrat_replay.proofs.StatusLaws.{forces-is, conflict-is}
+use Rattle.lrat_replay.proofs.Tools.{forces-is, conflict-is}
 use Rattle.clause_solver.specs.Trail.{Track, known_by, unassigned, IsVariableOf}
 use Rattle.clause_solver.specs.Plain.{IsConflictAt}
 use Rattle.clause_solver.specs.declared.plain.Pass.{Pass}

@@ -1,6 +1,6 @@
 use Rattle.std.proofs.Common.{sym, ap, ◌∙◌, inl, inr}
 use Rattle.clause_core.specs.Literal.{flip}
-use Rattle.lrat_replay.proofs.DenyLaws.{has-at}
+use Rattle.lrat_replay.proofs.Tools.{has-at}
 use Rattle.clause_solver.specs.Trail.{known_by}
 use Rattle.clause_solver.proofs.Visits.{has-take}
 use Rattle.clause_solver.proofs.propagate.first_not_false.Goals as goal

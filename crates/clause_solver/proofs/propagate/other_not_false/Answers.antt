@@ -1,8 +1,8 @@
 use Rattle.std.proofs.Common.{sym, ap, ◌∙◌, inl, inr}
 use Rattle.std.proofs.lemmas.Bool.{both_ways}
 use Rattle.clause_core.specs.Literal.{flip, same}
-use Rattle.clause_core.proofs.Literals.{same-at, same-true}
-use Rattle.lrat_replay.proofs.DenyLaws.{has-at}
+use Rattle.clause_core.proofs.Tools.{same-at, same-true}
+use Rattle.lrat_replay.proofs.Tools.{has-at}
 use Rattle.clause_solver.specs.Trail.{known_by}
 use Rattle.clause_solver.proofs.Visits.{has-take}
 use Rattle.clause_solver.proofs.propagate.other_not_false.Goals as goal

@@ -1,6 +1,6 @@
 use Rattle.std.proofs.Common.{ℕ, ◌^◌}
 use Rattle.std.specs.FinSet as set
-use Rattle.cube_core.proofs.CountLaws.{count_below}
+use Rattle.cube_core.proofs.Tools.{count_below}
 use Rattle.cover_make.proofs.ExpansionsLaws.{IsFoundBelow}
 use Rattle.cover_make.proofs.cover.expand_all.Given as goal
 

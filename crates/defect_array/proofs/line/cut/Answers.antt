@@ -1,5 +1,5 @@
 use Rattle.std.proofs.Common.{sym}
-use Rattle.report_text.proofs.CutLaws.{cut_at, Without-none}
+use Rattle.report_text.proofs.Tools.{cut_at, Without-none}
 use Rattle.defect_array.proofs.line.cut.Goals as goal
 
 pub returns-in_err-place : goal.returns-in_err-place

@@ -3,7 +3,7 @@ use Rattle.cube_core.specs.Cube.{Product}
 use Rattle.cube_core.specs.Function.{Function}
 use Rattle.cover_make.specs.Cubes.{Products}
 use Rattle.cover_make.specs.Cover.{off_cover_of}
-use Rattle.cube_core.proofs.MembersLaws.{complement_of-AllBelow}
+use Rattle.cube_core.proofs.Tools.{complement_of-AllBelow}
 use Rattle.dual_product.specs.Dual.{on_cover_of}
 use Rattle.dual_product.proofs.DualLaws.{on-IsWithin, on_cover-read, off_cover-read, AreApart-read, some_ons, some_offs}
 use Rattle.dual_product.proofs.dual.between_covers.Goals as goal

@@ -1,7 +1,7 @@
 use Rattle.std.proofs.Common.{sym, subst}
 use Rattle.std.specs.Prelude.{All}
 use Rattle.cube_core.specs.Cube.{Product, Meet}
-use Rattle.lattice_grid.proofs.Lists.{flat_map-grown}
+use Rattle.lattice_grid.proofs.Tools.{flat_map-grown}
 use Rattle.dual_product.proofs.dual.rows.Goals as goal
 
 pub push_row-requires : goal.push_row-requires

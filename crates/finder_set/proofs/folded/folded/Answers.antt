@@ -5,7 +5,7 @@ use Rattle.finder_set.specs.Folding.{IsOneLess}
 use Rattle.lattice_grid.specs.Drawn.{IsDrawn}
 use Rattle.lattice_grid.specs.Lattice.{Lattice}
 use Rattle.lattice_grid.specs.Rectangle.{Size, IsSize}
-use Rattle.lattice_grid.proofs.DrawnLaws.{IsDrawn-read, IsDrawnTo-more}
+use Rattle.lattice_grid.proofs.Tools.{IsDrawn-read, IsDrawnTo-more}
 use Rattle.finder_set.proofs.FoldLaws.{IsFolded-drawn, folded_over, covered}
 use Rattle.finder_set.proofs.folded.folded.Goals as goal
 

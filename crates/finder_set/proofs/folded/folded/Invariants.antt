@@ -1,4 +1,4 @@
-use Rattle.lattice_grid.proofs.DrawnLaws.{IsDrawnTo}
+use Rattle.lattice_grid.proofs.Tools.{IsDrawnTo}
 use Rattle.finder_set.specs.Folded.{folded_control}
 use Rattle.finder_set.proofs.folded.folded.Given as goal
 

@@ -1,5 +1,5 @@
-use Rattle.cube_core.proofs.MembersLaws.{complement_of-AllBelow}
-use Rattle.dual_product.proofs.DualLaws.{on-IsWithin}
+use Rattle.cube_core.proofs.Tools.{complement_of-AllBelow}
+use Rattle.dual_product.proofs.Tools.{on-IsWithin}
 use Rattle.finder_set.proofs.split.cubes.Goals as goal
 
 pub cover-requires-clause-within : goal.cover-requires-clause-within

@@ -1,7 +1,7 @@
 use Rattle.std.proofs.Common.{◌≡◌, refl, ap, ◌∙◌}
 use Rattle.cube_core.specs.Function.{Function}
 use Rattle.cube_core.specs.Members.{complement_of}
-use Rattle.dual_product.proofs.DualLaws.{same_function}
+use Rattle.dual_product.proofs.Tools.{same_function}
 use Rattle.finder_set.specs.declared.split.Side.TheVariants.{On, Off}
 use Rattle.finder_set.specs.Splitting.{part_of}
 use Rattle.finder_set.proofs.SplitLaws.{part_of-IsFunction, some_from}

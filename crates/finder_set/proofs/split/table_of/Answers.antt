@@ -1,5 +1,5 @@
 use Rattle.std.proofs.Common.{sym, ◌∙◌}
-use Rattle.cover_make.proofs.CubesLaws.{table_of-nil, table_of-grown}
+use Rattle.cover_make.proofs.Tools.{table_of-nil, table_of-grown}
 use Rattle.finder_set.proofs.split.table_of.Goals as goal
 
 pub loop-cube-init : goal.loop-cube-init

@@ -1,5 +1,5 @@
 use Rattle.std.proofs.Common.{Err, refl, ◌∷◌, [], ◌++◌}
-use Rattle.report_text.proofs.PutLaws.{puts_then, puts_stop}
+use Rattle.report_text.proofs.Tools.{puts_then, puts_stop}
 use Rattle.journal_text.specs.Text.{target_text}
 use Rattle.journal_text.proofs.lines.put_asked.Goals as goal
 

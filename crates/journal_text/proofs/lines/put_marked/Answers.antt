@@ -1,6 +1,6 @@
 use Rattle.std.proofs.Common.{Err, refl, ap, ◌∷◌, [], ◌++◌}
 use Rattle.report_text.specs.Cells.{size_text, array_text}
-use Rattle.report_text.proofs.PutLaws.{puts_then, puts_stop, puts_as}
+use Rattle.report_text.proofs.Tools.{puts_then, puts_stop, puts_as}
 use Rattle.journal_text.proofs.lines.put_marked.Goals as goal
 
 pub returns-in_err-put : goal.returns-in_err-put

@@ -1,6 +1,6 @@
 use Rattle.std.proofs.Common.{Err, refl, ◌∷◌, [], ◌++◌, codes}
 use Rattle.std.specs.Fmt.{decimal}
-use Rattle.report_text.proofs.PutLaws.{puts_then, puts_stop, puts_as}
+use Rattle.report_text.proofs.Tools.{puts_then, puts_stop, puts_as}
 use Rattle.journal_text.specs.Text.{target_text}
 use Rattle.journal_text.proofs.TextLaws.{question_parts}
 use Rattle.journal_text.proofs.lines.put_question.Goals as goal

@@ -1,6 +1,6 @@
 use Rattle.std.proofs.Common.{◌∙◌, ap, ◌∷◌}
 use Rattle.report_text.specs.Pieces.{words_left}
-use Rattle.report_text.proofs.PiecesLaws.{no_last}
+use Rattle.report_text.proofs.Tools.{no_last}
 use Rattle.journal_text.proofs.text.last_word.Goals as goal
 
 pub returns-in-Some : goal.returns-in-Some

@@ -1,5 +1,5 @@
 use Rattle.std.proofs.Common.{rules}
-use Rattle.report_text.proofs.NumberLaws.{no_number-empty, no_number-sign, no_number-zeros}
+use Rattle.report_text.proofs.Tools.{no_number-empty, no_number-sign, no_number-zeros}
 use Rattle.journal_text.proofs.text.number_of.Goals as goal
 use Rattle.journal_text.proofs.text.number_of.Goals.{then-is_empty-via-then-is_empty, then-is_empty-via-else-is_empty+then-word-eq43}
 

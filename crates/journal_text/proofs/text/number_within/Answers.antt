@@ -1,5 +1,5 @@
 use Rattle.std.proofs.Common.{arith, sym, ◌∙◌}
-use Rattle.report_text.proofs.NumberLaws.{same_number}
+use Rattle.report_text.proofs.Tools.{same_number}
 use Rattle.journal_text.proofs.text.number_within.Goals as goal
 
 pub returns-else-number-most : goal.returns-else-number-most

@@ -1,6 +1,6 @@
 use Rattle.std.proofs.Common.{subst, ℕ, List}
 use Rattle.std.specs.Str.Parse.{ParsesUnsigned}
-use Rattle.report_text.proofs.NumberLaws.{parsed_number, digits_are_text}
+use Rattle.report_text.proofs.Tools.{parsed_number, digits_are_text}
 use Rattle.journal_text.proofs.text.parsed.Goals as goal
 
 pub returns-in_default : goal.returns-in_default

@@ -1,4 +1,4 @@
-use Rattle.report_text.proofs.PiecesLaws.{pieces-none, pieces-Cuts}
+use Rattle.report_text.proofs.Tools.{pieces-none, pieces-Cuts}
 use Rattle.journal_text.proofs.text.piece_at.Goals as goal
 
 pub returns-in-None : goal.returns-in-None

@@ -1,5 +1,5 @@
 use Rattle.std.proofs.Common.{◌∙◌}
-use Rattle.clause_core.proofs.BatchLaws.{batched-more, batched-stop}
+use Rattle.clause_core.proofs.Tools.{batched-more, batched-stop}
 use Rattle.journal_text.proofs.WriteLaws.{line_next}
 use Rattle.journal_text.proofs.write.add_steps.Goals as goal
 

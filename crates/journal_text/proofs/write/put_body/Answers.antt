@@ -1,6 +1,6 @@
 use Rattle.std.proofs.Common.{Err, refl, ap, ◌++◌, codes}
 use Rattle.std.specs.List.{flat_map}
-use Rattle.report_text.proofs.PutLaws.{puts_then, puts_stop, puts_as}
+use Rattle.report_text.proofs.Tools.{puts_then, puts_stop, puts_as}
 use Rattle.journal_text.specs.Parts.{part_of}
 use Rattle.journal_text.specs.Text.{part_text}
 use Rattle.journal_text.proofs.WriteLaws.{mapped_parts}

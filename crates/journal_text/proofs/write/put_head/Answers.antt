@@ -1,4 +1,4 @@
-use Rattle.report_text.proofs.PutLaws.{puts_as}
+use Rattle.report_text.proofs.Tools.{puts_as}
 use Rattle.journal_text.proofs.WriteLaws.{head_of_one, head_of_two}
 use Rattle.journal_text.proofs.write.put_head.Goals as goal
 

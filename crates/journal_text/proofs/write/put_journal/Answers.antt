@@ -1,5 +1,5 @@
 use Rattle.std.proofs.Common.{Err, refl, ◌++◌, codes}
-use Rattle.report_text.proofs.PutLaws.{puts_then, puts_stop, puts_as}
+use Rattle.report_text.proofs.Tools.{puts_then, puts_stop, puts_as}
 use Rattle.journal_text.specs.Parts.{parts_of_journal}
 use Rattle.journal_text.specs.Text.{head_text, parts_text}
 use Rattle.journal_text.proofs.WriteLaws.{journal_lines}

@@ -1,6 +1,6 @@
 use Rattle.std.proofs.Common.{Err, refl, ◌∷◌, [], ◌++◌, append_assoc}
 use Rattle.std.specs.Fmt.{decimal}
-use Rattle.report_text.proofs.PutLaws.{puts_then, puts_stop, puts_as}
+use Rattle.report_text.proofs.Tools.{puts_then, puts_stop, puts_as}
 use Rattle.journal_text.proofs.write.put_lead.Goals as goal
 
 pub returns-in_err-put_number : goal.returns-in_err-put_number

@@ -1,5 +1,5 @@
 use Rattle.std.proofs.Common.{Err, refl}
-use Rattle.report_text.proofs.PutLaws.{IsPut-more, IsPut-stop, blanks_next}
+use Rattle.report_text.proofs.Tools.{IsPut-more, IsPut-stop, blanks_next}
 use Rattle.journal_text.specs.Parts.{part_of}
 use Rattle.journal_text.specs.Text.{part_text}
 use Rattle.journal_text.proofs.write.put_parts.Goals as goal

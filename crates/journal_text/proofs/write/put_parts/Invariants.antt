@@ -1,6 +1,6 @@
 use Rattle.std.proofs.Common.{drop}
 use Rattle.std.specs.List.{flat_map}
-use Rattle.report_text.proofs.PutLaws.{IsPut}
+use Rattle.report_text.proofs.Tools.{IsPut}
 use Rattle.journal_text.specs.Parts.{part_of}
 use Rattle.journal_text.specs.Text.{part_text}
 use Rattle.journal_text.proofs.write.put_parts.Given as goal

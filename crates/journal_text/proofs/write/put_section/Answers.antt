@@ -1,5 +1,5 @@
 use Rattle.std.proofs.Common.{Err, refl, ◌++◌}
-use Rattle.report_text.proofs.PutLaws.{puts_then, puts_stop, puts_as}
+use Rattle.report_text.proofs.Tools.{puts_then, puts_stop, puts_as}
 use Rattle.journal_text.specs.Parts.{section_of}
 use Rattle.journal_text.specs.Text.{question_text, steps_text, close_text}
 use Rattle.journal_text.proofs.WriteLaws.{section_lines}

@@ -1,4 +1,4 @@
-use Rattle.report_text.proofs.PutLaws.{flushed_front}
+use Rattle.report_text.proofs.Tools.{flushed_front}
 use Rattle.journal_text.proofs.write.write_journal.Goals as goal
 
 pub returns-clause-front : goal.returns-clause-front

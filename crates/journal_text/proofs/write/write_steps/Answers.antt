@@ -1,4 +1,4 @@
-use Rattle.clause_core.proofs.BatchLaws.{batch-front}
+use Rattle.clause_core.proofs.Tools.{batch-front}
 use Rattle.journal_text.proofs.write.write_steps.Goals as goal
 
 pub returns-clause-front : goal.returns-clause-front

@@ -1,7 +1,7 @@
 use Rattle.std.proofs.Common.{◌≡◌, ◌*◌, length, ap, refl, subst, ◌∙◌, rules}
 use Rattle.std.specs.Option.{SomeIff}
 use Rattle.lattice_grid.specs.Lattice.{Lattice}
-use Rattle.lattice_grid.proofs.DrawnLaws.{IsDrawn-read, IsDrawnTo-more}
+use Rattle.lattice_grid.proofs.Tools.{IsDrawn-read, IsDrawnTo-more}
 use Rattle.lattice_compose.proofs.drawn.drawn.Goals as goal
 
 pub loop-index-preserved : goal.loop-index-preserved

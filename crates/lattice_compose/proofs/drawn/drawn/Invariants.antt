@@ -1,4 +1,4 @@
-use Rattle.lattice_grid.proofs.DrawnLaws.{IsDrawnTo}
+use Rattle.lattice_grid.proofs.Tools.{IsDrawnTo}
 use Rattle.lattice_compose.proofs.drawn.drawn.Given as goal
 
 abbrev pub invariant-loop-index : goal.invariant-loop-index

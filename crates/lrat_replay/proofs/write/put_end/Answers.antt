@@ -1,7 +1,7 @@
 use Rattle.std.proofs.Common.{codes}
 use Rattle.lrat_replay.specs.LratText.{hints_text}
 use Rattle.std.proofs.lemmas.Result.{on_ok_weaker}
-use Rattle.clause_core.proofs.BatchLaws.{stop-one, stop-two, stop-three, all-three}
+use Rattle.clause_core.proofs.Tools.{stop-one, stop-two, stop-three, all-three}
 use Rattle.lrat_replay.proofs.write.put_end.Goals as goal
 
 pub returns-in_err-put-clause-front : goal.returns-in_err-put-clause-front

@@ -2,7 +2,7 @@ use Rattle.std.proofs.Common.{◌∙◌, arith, codes, ◌++◌, get_or, pos, w3
 use Rattle.std.specs.Fmt.{signed_decimal}
 use Rattle.std.proofs.lemmas.Int.{to_z-of_z}
 use mir.Val.{SFits}
-use Rattle.clause_core.proofs.BatchLaws.{batched-more, batched-stop, batched-passes, flat_map-drop, flat_map-end}
+use Rattle.clause_core.proofs.Tools.{batched-more, batched-stop, batched-passes, flat_map-drop, flat_map-end}
 use Rattle.lrat_replay.proofs.write.put_hints.Goals as goal
 
 pub returns-in_err-put_hint-clause-front : goal.returns-in_err-put_hint-clause-front

@@ -1,7 +1,7 @@
 use Rattle.clause_core.specs.Cnf.{literals_text}
 use Rattle.lrat_replay.specs.LratText.{id_text, end_text}
 use Rattle.std.proofs.lemmas.Result.{on_ok_weaker}
-use Rattle.clause_core.proofs.BatchLaws.{stop-one, stop-two, stop-three, all-three}
+use Rattle.clause_core.proofs.Tools.{stop-one, stop-two, stop-three, all-three}
 use Rattle.lrat_replay.proofs.write.put_step.Goals as goal
 
 pub returns-in_err-put_id-clause-front : goal.returns-in_err-put_id-clause-front

@@ -1,4 +1,4 @@
-use Rattle.clause_core.proofs.BatchLaws.{batch-front}
+use Rattle.clause_core.proofs.Tools.{batch-front}
 use Rattle.lrat_replay.proofs.write.write_step.Goals as goal
 
 pub returns-clause-front : goal.returns-clause-front

@@ -1,5 +1,5 @@
 use Rattle.std.proofs.Common.{◌∙◌, below_more, subst, arith}
-use Rattle.lattice_grid.proofs.Lists.{shl_few}
+use Rattle.lattice_grid.proofs.Tools.{shl_few}
 use Rattle.std.specs.Option.{option_copied}
 use Rattle.path_meaning.specs.Failing.{MeetsIn}
 use Rattle.path_meaning.proofs.realise.realises_in.Goals as goal

@@ -2,7 +2,7 @@ use Rattle.std.proofs.Common.{ap, ◌∙◌, sym, subst}
 use Rattle.clause_core.specs.Formula.{IsOver}
 use Rattle.lrat_replay.specs.Status.{status}
 use Rattle.lrat_replay.specs.Marks.{room}
-use Rattle.lrat_replay.proofs.DenyLaws.{fits_over}
+use Rattle.lrat_replay.proofs.Tools.{fits_over}
 use Rattle.clause_solver.specs.Trail.{Track, known_by}
 use Rattle.clause_solver.proofs.trail.Trail.status.Goals as goal
 

@@ -1,6 +1,6 @@
 use Rattle.std.proofs.Common.{◌≡◌, ◌⊎◌, [], Bool, false, ap, ◌∙◌, subst, arith}
 use Rattle.std.specs.Prelude.{IfSome}
-use Rattle.lrat_replay.proofs.ReplayLaws.{ok_part}
+use Rattle.lrat_replay.proofs.Tools.{ok_part}
 use Rattle.journal_text.specs.Kept.{SpellsSection, Learning}
 use Rattle.journal_text.specs.Origin.{origin_of}
 use Rattle.journal_text.proofs.SectionLaws.{written-of, count_fits, learned_whole, learned_cut, origin-kept}

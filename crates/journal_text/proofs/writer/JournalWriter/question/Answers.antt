@@ -1,6 +1,6 @@
 use Rattle.std.proofs.Common.{◌≡◌, false, sym, ap, ◌∙◌, subst}
 use Rattle.std.specs.Prelude.{IfSome}
-use Rattle.lrat_replay.proofs.ReplayLaws.{ok_part}
+use Rattle.lrat_replay.proofs.Tools.{ok_part}
 use Rattle.journal_text.specs.Kept.{Learning}
 use Rattle.journal_text.specs.Origin.{origin_of}
 use Rattle.journal_text.proofs.SectionLaws.{still_writer, asked_next, asked_origin}

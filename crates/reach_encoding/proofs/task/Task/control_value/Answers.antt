@@ -1,7 +1,7 @@
 use Rattle.std.proofs.Common.{◌<◌, ◌∙◌, length, get_or, sym, ap, subst}
 use Rattle.lattice_grid.specs.declared.control.Control.TheVariants.{Zero}
 use Rattle.lattice_grid.specs.Control.{NamesBelow}
-use Rattle.lattice_grid.proofs.RailsLaws.{names_at_number}
+use Rattle.lattice_grid.proofs.Tools.{names_at_number}
 use Rattle.reach_encoding.specs.Encoding.{many_controls}
 use Rattle.reach_encoding.proofs.task.Task.control_value.Goals as goal
 
