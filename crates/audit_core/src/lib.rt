@@ -12,6 +12,4 @@ pub mod refusal;
 pub mod renew;
 mod same;
 mod section;
-#[cfg(test)]
-mod tests;
 pub mod text;

@@ -13,8 +13,6 @@ pub mod number;
 pub mod read;
 pub mod refusal;
 pub mod rows;
-#[cfg(test)]
-mod tests;
 pub mod text;
 pub mod valuation;
 pub mod write;

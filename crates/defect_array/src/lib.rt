@@ -6,5 +6,3 @@ mod line;
 pub mod place;
 pub mod read;
 mod rows;
-#[cfg(test)]
-mod tests;

@@ -1,9 +1,8 @@
 //! Finders that propose nonsense, nothing, or cannot be begun.
 ghost use Rattle.std.specs.Prelude.{◌≤◌};
 
-use cube_core::assign::Assign;
+use crate::functions::{exclusive_or, row_of};
 use cube_core::spec::Spec;
-use cube_core::table::Table;
 use finder_set::finder::Finder;
 use finder_set::improve::{Improved, improve};
 use lattice_grid::control::Control;
@@ -74,24 +73,6 @@ impl Finder for Hostile {
             Habit::Silent | Habit::Broken => Ok(None),
         }
     }
-}
-
-/// A row of these controls.
-fn row_of(controls: Vec<Control>) -> Option<Grid> {
-    if !controls.iter().all(|control| control.names_below(10)) {
-        return None;
-    }
-    let cols = u32::try_from(controls.len()).ok()?;
-    Grid::new(Shape::new(1, cols)?, controls)
-}
-
-/// 1 where the inputs differ.
-fn exclusive_or() -> Option<Spec> {
-    let mut on = Table::empty();
-    on.add(Assign::new(1)?);
-    on.add(Assign::new(2)?);
-    let off = on.complement(2);
-    Spec::new(2, on, off)
 }
 
 /// The control of a lattice's first cell.

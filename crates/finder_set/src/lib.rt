@@ -10,7 +10,5 @@ pub mod slot;
 mod split;
 pub mod split_and;
 pub mod split_or;
-#[cfg(test)]
-mod tests;
 mod trial;
 pub mod trim;

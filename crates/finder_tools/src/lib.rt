@@ -5,6 +5,4 @@
 pub mod flood;
 pub mod proposal;
 pub mod random;
-#[cfg(test)]
-mod tests;
 pub mod words;

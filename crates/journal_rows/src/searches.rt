@@ -1,25 +1,10 @@
+use crate::functions::function;
 use area_search::least::search;
-use cube_core::assign::Assign;
-use cube_core::spec::Spec;
-use cube_core::table::Table;
 use journal_text::writer::JournalWriter;
 use lattice_grid::rails::Rails;
 use report_text::answer::Answer;
 use std::test::*;
 use wire_io::firm::FirmSink;
-
-/// The function of so many inputs that is 1 at these assignments.
-fn function(inputs: u8, ons: &[u16]) -> Option<Spec> {
-    let mut on = Table::empty();
-    for number in ons {
-        on.add(Assign::new(*number)?);
-    }
-    if inputs < 1 || inputs > 10 {
-        return None;
-    }
-    let off = Table::full(inputs).minus(&on);
-    Spec::new(inputs, on, off)
-}
 
 #[test]
 fn exclusive_or_without_conflicts(rt: HostRuntime) -> Result<(), Fail> {

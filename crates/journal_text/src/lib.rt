@@ -14,8 +14,6 @@ pub mod reader;
 pub mod refusal;
 pub mod section;
 pub mod target;
-#[cfg(test)]
-mod tests;
 mod text;
 pub mod write;
 pub mod writer;

@@ -3,6 +3,4 @@
 
 pub mod compose;
 mod drawn;
-#[cfg(test)]
-mod tests;
 pub mod without;

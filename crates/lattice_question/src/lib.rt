@@ -3,5 +3,3 @@
 #![tactic(auto)]
 
 pub mod question;
-#[cfg(test)]
-mod tests;

@@ -21,8 +21,6 @@ pub mod step_text;
 mod store;
 mod subset;
 pub mod tally;
-#[cfg(test)]
-mod tests;
 pub mod write;
 
 /// What replay shows, of all formulas and all lines.

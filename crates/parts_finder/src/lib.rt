@@ -15,5 +15,3 @@ mod products;
 mod shrunk;
 mod solve;
 mod tester;
-#[cfg(test)]
-mod tests;

@@ -11,5 +11,3 @@ mod mend;
 mod probe;
 pub mod repair;
 mod sketch;
-#[cfg(test)]
-mod tests;

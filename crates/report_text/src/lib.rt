@@ -9,7 +9,5 @@ mod heading;
 mod line;
 pub mod report;
 pub mod shape;
-#[cfg(test)]
-mod tests;
 mod text;
 pub mod write;

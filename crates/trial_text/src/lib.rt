@@ -4,5 +4,3 @@
 pub mod laws;
 pub mod made;
 mod plane;
-#[cfg(test)]
-mod tests;

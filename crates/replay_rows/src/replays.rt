@@ -1,20 +1,29 @@
-use crate::deny::is_above;
-use crate::fault::StepFault;
-use crate::ledger::Ledger;
-use crate::read::read_lrat;
-use crate::refusal::LratRefusal;
-use crate::replay::Replay;
-use crate::step_text::read_step;
-use crate::tally::Tally;
-use crate::write::write_step;
+ghost use Rattle.std.specs.Prelude.{IsTrue};
+ghost use Rattle.clause_core.specs.Formula.{IsOver};
+
 use clause_core::lit::Lit;
 use clause_core::read::read_cnf;
+use lrat_replay::fault::StepFault;
+use lrat_replay::ledger::Ledger;
+use lrat_replay::read::read_lrat;
+use lrat_replay::refusal::LratRefusal;
+use lrat_replay::replay::Replay;
+use lrat_replay::step_text::read_step;
+use lrat_replay::tally::Tally;
+use lrat_replay::write::write_step;
 use std::test::Fail;
 use wire_io::firm::FirmSink;
 
+/// Whether a clause is over so many variables.
+fn is_over(clause: &[Lit], vars: u32) -> bool
+    ensures { IsTrue result → IsOver vars clause.now }
+{
+    clause.iter().all(|lit| lit.var() <= vars)
+}
+
 /// Whether a clause is new, if it is over the formula's variables.
 fn is_new(replay: &mut Replay, clause: &[Lit]) -> Option<bool> {
-    if is_above(clause, replay.formula().vars()) {
+    if !is_over(clause, replay.formula().vars()) {
         return None;
     }
     Some(replay.is_new(clause))

@@ -1,29 +1,17 @@
-use crate::question::{Asked, Outcome, ask};
-use cube_core::assign::Assign;
-use cube_core::spec::Spec;
-use cube_core::table::Table;
+use crate::functions::function;
 use journal_text::target::Target;
 use journal_text::writer::JournalWriter;
 use lattice_grid::array::{Array, Defect};
 use lattice_grid::rails::Rails;
 use lattice_grid::shape::Shape;
+use lattice_question::question::{Asked, Outcome, ask};
 use std::test::*;
 use wire_io::firm::FirmSink;
-
-/// The function of two inputs that is 1 at these assignments.
-fn function(ons: &[u16]) -> Option<Spec> {
-    let mut on = Table::empty();
-    for number in ons {
-        on.add(Assign::new(*number)?);
-    }
-    let off = Table::full(2).minus(&on);
-    Spec::new(2, on, off)
-}
 
 #[test]
 fn exclusive_or_on_two_switches_side_by_side(rt: HostRuntime) -> Result<(), Fail> {
     let alloc = rt.alloc();
-    let spec = function(&[1, 2]).ok_or("a function")?;
+    let spec = function(2, &[1, 2]).ok_or("a function")?;
     let target = Target::Whole(Shape::new(1, 2).ok_or("a shape")?);
     let sink = FirmSink::new(alloc, 4_000, 7).ok().ok_or("memory")?;
     let Ok(writer) = JournalWriter::begin(sink, Rails::all()) else {
@@ -42,7 +30,7 @@ fn exclusive_or_on_two_switches_side_by_side(rt: HostRuntime) -> Result<(), Fail
 #[test]
 fn a_conjunction_on_an_array_of_four(rt: HostRuntime) -> Result<(), Fail> {
     let alloc = rt.alloc();
-    let spec = function(&[3]).ok_or("a function")?;
+    let spec = function(2, &[3]).ok_or("a function")?;
     let shape = Shape::new(2, 2).ok_or("a shape")?;
     let mut cells = Vec::new(alloc);
     cells.push(Defect::Sound)?;

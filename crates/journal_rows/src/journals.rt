@@ -1,14 +1,14 @@
 ghost use Rattle.std.specs.Prelude.{IsTrue};
 ghost use Rattle.journal_text.specs.Bounds.{MayStand};
 
-use crate::fault::JournalFault;
-use crate::journal::{Part, PartKind, SectionText};
-use crate::read::read_journal;
-use crate::refusal::JournalRefusal;
-use crate::target::{Close, Target};
-use crate::writer::JournalWriter;
 use clause_core::read::read_cnf;
 use clause_core::valuation::Valuation;
+use journal_text::fault::JournalFault;
+use journal_text::journal::{Part, PartKind, SectionText};
+use journal_text::read::read_journal;
+use journal_text::refusal::JournalRefusal;
+use journal_text::target::{Close, Target};
+use journal_text::writer::JournalWriter;
 use lattice_grid::array::{Array, Defect};
 use lattice_grid::rails::Rails;
 use lattice_grid::shape::Shape;

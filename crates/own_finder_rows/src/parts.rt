@@ -1,42 +1,13 @@
-ghost use Rattle.std.specs.Prelude.{◌≤◌};
-
-use crate::parts::PartsFinder;
-use cube_core::assign::{ASSIGNMENTS, Assign};
+use crate::functions::{carry, symmetric};
 use cube_core::spec::Spec;
-use cube_core::table::Table;
 use dual_product::dual::dual_product;
 use finder_set::finder::Finder;
 use finder_set::improve::{Improved, improve};
+use parts_finder::parts::PartsFinder;
 use path_meaning::marks::Marks;
 use std::alloc::Global;
 use std::test::*;
 use wire_io::fault::NoMemory;
-
-/// 1 where the number of ones among so many inputs is one of these, each a bit of a number.
-fn symmetric(inputs: u8, counts: u32) -> Option<Spec>
-    requires { inputs ≤ 10 }
-{
-    let mut on = Table::empty();
-    for number in 0..ASSIGNMENTS {
-        if number < 1 << inputs && (counts >> number.count_ones().min(31)) & 1 == 1 {
-            on.add(Assign::new(number)?);
-        }
-    }
-    let off = on.complement(inputs);
-    Spec::new(inputs, on, off)
-}
-
-/// 1 where two numbers of two bits add up to four or more.
-fn carry() -> Option<Spec> {
-    let mut on = Table::empty();
-    for number in 0..16u16 {
-        if number % 4 + number / 4 >= 4 {
-            on.add(Assign::new(number)?);
-        }
-    }
-    let off = on.complement(4);
-    Spec::new(4, on, off)
-}
 
 /// What the finder alone makes of the dual product.
 fn improved(alloc: Global, spec: &Spec) -> Result<Improved, NoMemory> {

@@ -1,10 +1,6 @@
-ghost use Rattle.std.specs.Prelude.{◌≤◌, length};
-ghost use Rattle.journal_text.specs.Parts.{parts_of_journal};
-ghost use Rattle.journal_text.specs.Text.{journal_text};
-
-use crate::audit::{Confirmed, audit};
-use crate::refusal::{AuditRefusal, TextRefusal};
-use crate::text;
+use audit_core::audit::{Confirmed, audit};
+use audit_core::refusal::{AuditRefusal, TextRefusal};
+use audit_core::text;
 use cube_core::assign::Assign;
 use journal_text::read::read_journal;
 use journal_text::refusal::JournalRefusal;

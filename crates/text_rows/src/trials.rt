@@ -1,5 +1,5 @@
-use crate::made::made;
 use std::test::*;
+use trial_text::made::made;
 
 /// The text that 1 makes, by a program in another language.
 const FIRST: &str = ".i 6\n\

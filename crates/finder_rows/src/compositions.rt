@@ -2,8 +2,8 @@
 ghost use Rattle.std.specs.Prelude.{◌≡◌, All, IfOk};
 ghost use Rattle.lattice_grid.specs.Control.{NamesBelow};
 
-use crate::compose::{both, either};
-use crate::without::{drop_col, drop_row};
+use lattice_compose::compose::{both, either};
+use lattice_compose::without::{drop_col, drop_row};
 use lattice_grid::control::Control;
 use lattice_grid::grid::Grid;
 use lattice_grid::shape::Shape;

@@ -1,8 +1,8 @@
-use crate::place::place;
-use crate::read::{ArrayRefusal, read_array};
 use cube_core::assign::Assign;
 use cube_core::spec::Spec;
 use cube_core::table::Table;
+use defect_array::place::place;
+use defect_array::read::{ArrayRefusal, read_array};
 use journal_text::writer::JournalWriter;
 use lattice_grid::array::Defect;
 use lattice_grid::control::Control;

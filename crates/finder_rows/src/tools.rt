@@ -1,6 +1,6 @@
-use crate::flood::{last_row, spread};
-use crate::random::Random;
-use crate::words::on_word;
+use finder_tools::flood::{last_row, spread};
+use finder_tools::random::Random;
+use finder_tools::words::on_word;
 use lattice_grid::control::Control;
 use std::test::*;
 

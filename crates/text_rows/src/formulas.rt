@@ -1,7 +1,7 @@
-use crate::read::read_cnf;
-use crate::refusal::CnfRefusal;
-use crate::valuation::Valuation;
-use crate::write::write_cnf;
+use clause_core::read::read_cnf;
+use clause_core::refusal::CnfRefusal;
+use clause_core::valuation::Valuation;
+use clause_core::write::write_cnf;
 use std::test::Fail;
 use wire_io::firm::FirmSink;
 

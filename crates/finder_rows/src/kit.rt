@@ -1,14 +1,13 @@
 ghost use Rattle.std.specs.Prelude.{◌≤◌};
 
-use crate::finder::Finder;
-use crate::fold::Fold;
-use crate::improve::improve;
-use crate::split_and::SplitAnd;
-use crate::split_or::SplitOr;
-use crate::trim::Trim;
-use cube_core::assign::Assign;
+use crate::functions::{conjunction, exclusive_or, row_of};
 use cube_core::spec::Spec;
-use cube_core::table::Table;
+use finder_set::finder::Finder;
+use finder_set::fold::Fold;
+use finder_set::improve::improve;
+use finder_set::split_and::SplitAnd;
+use finder_set::split_or::SplitOr;
+use finder_set::trim::Trim;
 use lattice_grid::control::Control;
 use lattice_grid::grid::Grid;
 use lattice_grid::pairs::pairs;
@@ -60,32 +59,6 @@ fn column_of(alloc: Global, row: &Grid) -> Result<Option<Grid>, NoMemory> {
     let rows = row.shape().cols();
     let cells = Vec::from_slice(alloc, row.row(0))?;
     Ok(Shape::new(rows, 1).and_then(|shape| Grid::new(shape, cells)))
-}
-
-/// A row of these controls.
-fn row_of(controls: Vec<Control>) -> Option<Grid> {
-    if !controls.iter().all(|control| control.names_below(10)) {
-        return None;
-    }
-    let cols = u32::try_from(controls.len()).ok()?;
-    Grid::new(Shape::new(1, cols)?, controls)
-}
-
-/// 1 where the inputs differ.
-fn exclusive_or() -> Option<Spec> {
-    let mut on = Table::empty();
-    on.add(Assign::new(1)?);
-    on.add(Assign::new(2)?);
-    let off = on.complement(2);
-    Spec::new(2, on, off)
-}
-
-/// 1 where both inputs are.
-fn conjunction() -> Option<Spec> {
-    let mut on = Table::empty();
-    on.add(Assign::new(3)?);
-    let off = on.complement(2);
-    Spec::new(2, on, off)
 }
 
 /// A finder that proposes the cells of this row so often.
