@@ -1,6 +1,6 @@
 mod Literals
 mod PiecesLaws
-mod BatchLaws
+mod PieceLaws
 mod WriteLaws
 mod TextLaws
 mod DraftLaws

@@ -1,4 +1,4 @@
--- What a draft of a formula takes.
+-- For the crate's own proofs: what a draft of a formula takes.
 use Rattle.std.specs.Prelude.{◌≡◌, ◌++◌, List}
 use Rattle.clause_core.specs.declared.draft.Draft.{Draft}
 use Rattle.clause_core.specs.declared.number.Number.{Number}

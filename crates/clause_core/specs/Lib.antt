@@ -1,7 +1,6 @@
 pub mod Literal
 pub mod Formula
 pub mod Pieces
-pub mod Batch
 pub mod Cnf
 pub mod Text
 pub mod Number

@@ -4,7 +4,6 @@
 ghost use Rattle.clause_core.specs.Literal.{IsByVariableAndSign, HasItsLiterals};
 ghost use Rattle.clause_core.specs.RoundTrip.{IsRoundTrip};
 
-pub mod batch;
 pub mod clauses;
 mod draft;
 pub mod formula;

@@ -1,4 +1,4 @@
--- What the analysis of a conflict keeps, value by value from the newest.
+-- For the crate's own proofs: what the analysis of a conflict keeps, value by value from the newest.
 use Rattle.std.specs.Prelude.{◌≡◌, ◌⊎◌, ℕ, ◌+◌, ◌<◌, ◌≤◌, true, false, List, [], ◌∷◌, length, Some, ℤ, slice_get}
 use Rattle.std.specs.declared.option.Option.{Option}
 use Rattle.clause_core.specs.Literal.{Literal, flip, has}

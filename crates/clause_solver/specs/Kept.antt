@@ -1,4 +1,4 @@
--- What a trail keeps.
+-- For the crate's own proofs: what a trail keeps.
 use Rattle.std.specs.Prelude.{◌≡◌, ◌+◌, ◌*◌, ◌<◌, ◌≤◌, reverse}
 use Rattle.lrat_replay.specs.Marks.{known_of, room}
 use Rattle.clause_solver.specs.Trail.{Track, known_by, AreFresh, AreOver}

@@ -1,4 +1,4 @@
--- Clauses by identifier, numbered from 1, and trails over them.
+-- For the crate's own proofs: clauses by identifier, numbered from 1, and trails over them.
 use Rattle.std.specs.Prelude.{◌≡◌, ℕ, ◌+◌, List, [], ◌∷◌, None, Some, slice_get}
 use Rattle.std.proofs.Common.{zero, suc}
 use Rattle.std.specs.declared.option.Option.{Option}

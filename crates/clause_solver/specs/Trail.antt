@@ -1,4 +1,4 @@
--- Values in the order in which they came, the newest first.
+-- For the crate's own proofs: values in the order in which they came, the newest first.
 use Rattle.std.specs.Prelude.{◌≡◌, ◌⊎◌, ℕ, ◌+◌, ◌-◌, ◌*◌, ◌<◌, ◌≤◌, drop, slice_index_or, Bool, true, false, cond, ◌||◌, List, [], ◌∷◌, length, None, Some}
 use Rattle.std.proofs.Common.{zero, suc}
 use Rattle.clause_core.specs.Literal.{Literal, flip, same, literal_of}

@@ -1,4 +1,4 @@
--- Which clauses watch which literals, as a search keeps it.
+-- For the crate's own proofs: which clauses watch which literals, as a search keeps it.
 use Rattle.std.specs.Prelude.{◌≡◌, ℕ, ◌+◌, ◌<◌, ◌++◌, ◌∷◌, List, [], length, map, slice_get, slice_index_or, None, Some, Vec, ◌⊎◌}
 use Rattle.std.specs.List.{swap_remove}
 use Rattle.std.specs.declared.option.Option.{Option}

@@ -1,4 +1,4 @@
--- What a search over watched literals keeps.
+-- For the crate's own proofs: what a search over watched literals keeps.
 use Rattle.std.specs.Prelude.{◌≡◌, ◌⊎◌, ℕ, ◌+◌, ◌*◌, ◌<◌, ◌≤◌, ◌++◌, true, false, List, [], ◌∷◌, length, All, None, Some, slice_get}
 use Rattle.std.specs.declared.option.Option.{Option}
 use Rattle.clause_core.specs.Literal.{Literal, flip, has}

@@ -1,4 +1,4 @@
--- What a question's outcome is answered with, for the crate's own proofs.
+-- For the crate's own proofs: what a question's outcome is answered with.
 use Rattle.std.specs.Prelude.{ℕ, List, [], ◌∷◌}
 use Rattle.lattice_grid.specs.Defects.{Defects}
 use Rattle.report_text.specs.declared.answer.Answer.{Answer}

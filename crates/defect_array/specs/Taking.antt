@@ -1,4 +1,4 @@
--- Rows that were taken, for the crate's own proofs.
+-- For the crate's own proofs: rows that were taken.
 use Rattle.std.specs.Prelude.{◌≡◌, ◌≢◌, ℕ, ◌<◌, ◌==◌, List, [], length, map, None, if◌then◌else◌}
 use Rattle.std.specs.List.{flat_map}
 use Rattle.lattice_grid.specs.declared.array.Defect.{Defect}

@@ -1,7 +1,6 @@
 //! The lines of a text.
-ghost use Rattle.std.specs.Prelude.{◌≡◌, ◌≤◌, ◌∷◌, ◌==◌, length, filter, OnOk, MatchOption};
+ghost use Rattle.std.specs.Prelude.{◌≡◌, ◌≤◌, ◌==◌, length, filter, OnOk};
 ghost use Rattle.std.specs.List.{position, position_or_len, before_first};
-ghost use Rattle.report_text.specs.Pieces.{Without, Cuts, pieces, pieces_left};
 ghost use Rattle.defect_array.specs.Rows.{is_counted, counted};
 
 use wire_io::fault::NoMemory;
@@ -11,24 +10,6 @@ fn place_of(bytes: &[u8], wanted: u8) -> Option<usize>
     ensures { result ≡ position (λ b. b == wanted) bytes.now }
 {
     bytes.iter().position(|b| *b == wanted)
-}
-
-/// The bytes before the first line feed, and those after it; None where there is none.
-fn cut(text: &[u8]) -> Option<(&[u8], &[u8])>
-    ensures { MatchOption result (Without 10 text.now) (λ parts. Cuts 10 text.now parts.0.now parts.1.now) }
-{
-    let place = place_of(text, b'\n')?;
-    Some((&text[..place], &text[place + 1..]))
-}
-
-/// The first line, and what follows its line feed where it has one.
-pub fn line_at(text: &[u8]) -> (&[u8], Option<&[u8]>)
-    ensures { pieces 10 text.now ≡ result.0.now ∷ pieces_left 10 result.1 }
-{
-    match cut(text) {
-        None => (text, None),
-        Some((line, rest)) => (line, Some(rest)),
-    }
 }
 
 /// The place of the first such byte, or the length.

@@ -5,9 +5,9 @@ ghost use Rattle.defect_array.specs.Rows.{rows_in};
 ghost use Rattle.defect_array.specs.Taking.{HasTaken};
 ghost use Rattle.defect_array.specs.declared.read.ArrayRefusal.TheVariants.{NoMemory};
 
-use crate::line::line_at;
 use crate::rows::Rows;
 use lattice_grid::array::Array;
+use report_text::text::piece_at;
 use std::alloc::Global;
 use wire_io::fault::NoMemory as OutOfMemory;
 
@@ -48,7 +48,7 @@ fn take_lines(rows: &mut Rows, alloc: Global, text: &[u8]) -> Result<(), ArrayRe
     let mut rest = Some(text);
     let mut number: u32 = 1;
     while let Some(lines) = rest {
-        let (line, after) = line_at(lines);
+        let (line, after) = piece_at(lines, b'\n');
         rows.take_line(&mut row, line, number)?;
         rest = after;
         number += 1;

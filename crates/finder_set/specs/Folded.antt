@@ -1,4 +1,4 @@
--- Which control is put at each place of a lattice that is folded. What the lattice then is stands in Folding.
+-- For the crate's own proofs: which control is put at each place of a lattice that is folded. What the lattice then is stands in Folding.
 use Rattle.std.specs.Prelude.{ℕ, ◌+◌, ◌^◌, ◌<◌, nat_lt, if◌then◌else◌}
 use Rattle.finder_set.specs.declared.folded.Neighbours.{Neighbours}
 use Rattle.finder_set.specs.Folding.{cell_of_two, number_in, next_to}

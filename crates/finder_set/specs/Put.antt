@@ -1,4 +1,4 @@
--- When two lattices that are put together join their plates. What is proposed stands in Splitting.
+-- For the crate's own proofs: when two lattices that are put together join their plates. What is proposed stands in Splitting.
 use Rattle.std.specs.Prelude.{ℕ, ◌<◌, ◌≤◌, take, drop, MatchOption}
 use Rattle.std.specs.declared.option.Option.{Option}
 use Rattle.cover_make.specs.Cubes.{Products}

@@ -1,4 +1,4 @@
--- What comes of a change that is tried. What it means for the proposals stands in Shrinking.
+-- For the crate's own proofs: what comes of a change that is tried. What it means for the proposals stands in Shrinking.
 use Rattle.std.specs.Prelude.{ℕ, MatchOption}
 use Rattle.std.specs.declared.option.Option.{Option}
 use Rattle.cube_core.specs.Function.{Function}

@@ -1,4 +1,4 @@
--- How a replay of lines ends.
+-- For the crate's own proofs: how a replay of lines ends.
 use Rattle.std.specs.Prelude.{◌≡◌, ℕ, List}
 use Rattle.lrat_replay.specs.declared.fault.StepFault.{StepFault}
 use Rattle.lrat_replay.specs.declared.fault.StepFault.TheVariants as faults

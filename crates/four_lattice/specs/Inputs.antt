@@ -1,4 +1,4 @@
--- What reading the inputs of a command comes to.
+-- For the crate's own proofs: what reading the inputs of a command comes to.
 use Rattle.std.specs.Prelude.{◌≡◌, ℕ, List}
 use Rattle.clause_core.specs.declared.refusal.CnfRefusal.TheVariants as cnf
 use Rattle.defect_array.specs.Reading.{Refused as IsNoArray}

@@ -1,4 +1,4 @@
--- What the parts of `synth`, `map` and `trial` write, for the crate's own proofs.
+-- For the crate's own proofs: what the parts of `synth`, `map` and `trial` write.
 use Rattle.std.specs.Prelude.{◌≡◌, ◌⊎◌, ℕ, ◌+◌, ◌*◌, ◌≤◌, Bool, nat_lt, if◌then◌else◌, List, [], ◌∷◌, ◌++◌, All, map, IfSome, slice_get, Some, codes}
 use Rattle.std.specs.List.{Contains}
 use Rattle.std.specs.declared.option.Option.{Option}

@@ -1,4 +1,4 @@
--- What the audit of a side file comes to.
+-- For the crate's own proofs: what the audit of a side file comes to.
 use Rattle.std.specs.Prelude.{◌≡◌, ◌≢◌, ◌⊎◌, ℕ, ◌≤◌, List, length, IfSome, Ok}
 use Rattle.std.specs.declared.option.Option.{Option}
 use Rattle.audit_core.specs.Audit.{Audited}

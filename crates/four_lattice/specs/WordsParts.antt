@@ -1,4 +1,4 @@
--- What the parts of the reading of words say.
+-- For the crate's own proofs: what the parts of the reading of words say.
 use Rattle.std.specs.Prelude.{◌≡◌, ◌++◌, ◌&&◌, ℕ, Bool, true, not, List, [], ◌∷◌, codes, map, Some, option_map, if◌then◌else◌, pos, false, nat_lt, ◌^◌}
 use Rattle.std.specs.List.{list_all, list_any}
 use Rattle.std.specs.Str.{bytes_eq}

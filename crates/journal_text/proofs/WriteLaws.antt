@@ -1,17 +1,10 @@
 -- The text of a journal in pieces, as it is written.
-use Rattle.std.proofs.Common.{◌≡◌, ℕ, ℤ, ◌+◌, ◌<◌, List, [], ◌∷◌, ◌++◌, length, get_or, drop, map, refl, sym, ap, ◌∙◌, subst, append_assoc, codes, Result, Ok, Err}
-use Rattle.std.specs.Prelude.{OnOk}
+use Rattle.std.proofs.Common.{◌≡◌, ℕ, ℤ, ◌+◌, ◌<◌, List, [], ◌∷◌, ◌++◌, length, get_or, drop, map, refl, sym, ap, ◌∙◌, append_assoc, codes}
 use Rattle.std.specs.List.{flat_map}
 use Rattle.std.specs.Fmt.{decimal}
-use Rattle.std.specs.declared.option.Option.{Option}
 use Rattle.clause_core.specs.Literal.{Literal}
 use Rattle.lrat_replay.specs.LratText.{step_text}
-use Rattle.wire_io.specs.Causes.{HasCause}
-use Rattle.wire_io.specs.Passing.{Passes}
-use Rattle.wire_io.specs.Told.{Gains, GainsFront}
-use Rattle.wire_io.proofs.Tools.{Passes-flushed, Passes-given, GainsFront-passed}
-use Rattle.report_text.specs.Writing.{Puts}
-use Rattle.report_text.proofs.Tools.{puts_then, blanks_next}
+use Rattle.report_text.proofs.Tools.{blanks_next}
 use Rattle.report_text.specs.declared.answer.Version.{Version}
 use Rattle.report_text.specs.declared.answer.Version.TheVariants.{One, Two}
 use Rattle.journal_text.specs.Lines.{line_text}
@@ -37,16 +30,6 @@ section_lines s = refl
 pub journal_lines : (j : Journal) → head_text j.version j.rails ++ (parts_text j.version (parts_of_journal j).parts ++ codes "end\n") ≡ journal_text (parts_of_journal j)
 unfolding journal_text front_text
 journal_lines j = sym (append_assoc (head_text j.version j.rails) (parts_text j.version (parts_of_journal j).parts) (codes "end\n"))
-
--- what waits goes to the sink, and these bytes behind it
-pub puts_behind : {T U E : Type 0} (g h k : Option (List ℕ)) (waiting empty text : List ℕ) (a b c : ℕ) (x : T) (r : Result U E) → empty ≡ []
-    → Gains g h waiting → HasCause {T = T} {E = E} a b (Ok x) → OnOk r (Gains h k text) → GainsFront h k text → HasCause b c r → Puts g k waiting empty a c r text
-puts_behind {T} {U} {E} g h k waiting empty text a b c x r none gave first ok front cause =
-    subst (λ z. Puts g k waiting z a c r text) (sym none)
-    (puts_then g h k waiting [] [] a b c x r [] text (record { ok = on_ok r ok; front = front; cause = cause }) (record { ok = Passes-flushed g h waiting gave; front = GainsFront-passed g h waiting [] [] (Passes-flushed g h waiting gave); cause = first })) where
-      on_ok : (r : Result U E) → OnOk r (Gains h k text) → OnOk r (Passes h k [] [] text)
-      on_ok (Ok y) p = Passes-given h k text p
-      on_ok (Err e) p = tt
 
 pub head_of_one : (v : Version) (rails : ℕ) → v ≡ One → codes "lattice journal 1\n" ≡ head_text v rails
 unfolding head_text

@@ -13,12 +13,12 @@ ghost use Rattle.journal_text.specs.declared.target.Close.{Close};
 ghost use Rattle.journal_text.specs.declared.target.Target.{Target};
 
 use crate::target::{Close, Target};
-use crate::text::{behind, last_number, last_word, number_at, word_at};
 use lattice_grid::shape::Shape;
 use lrat_replay::line::Step;
 use lrat_replay::step_text::read_step;
 use report_text::array::read_rows;
 use report_text::shape::read_shape;
+use report_text::text::{behind, last_number, last_word, number_at, word_at};
 use std::alloc::Global;
 use wire_io::fault::NoMemory;
 

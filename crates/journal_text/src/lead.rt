@@ -4,7 +4,7 @@ ghost use Rattle.std.specs.Bool.{MatchBool};
 ghost use Rattle.journal_text.specs.Reading.{first_word, IsNumber};
 ghost use Rattle.journal_text.specs.Lines.{IsLead};
 
-use crate::text::word_at;
+use report_text::text::word_at;
 
 /// What the first word of a line says.
 #[derive(Clone, Copy)]

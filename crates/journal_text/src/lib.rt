@@ -14,7 +14,6 @@ pub mod reader;
 pub mod refusal;
 pub mod section;
 pub mod target;
-mod text;
 pub mod write;
 pub mod writer;
 

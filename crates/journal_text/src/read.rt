@@ -17,10 +17,10 @@ use crate::lead::{Lead, lead_of};
 use crate::reader::Reader;
 use crate::refusal::JournalRefusal;
 use crate::target::{Close, Target};
-use crate::text::{cut, word_at};
 use lrat_replay::line::Step;
 use report_text::answer::Version;
 use report_text::block::{BlockFault, read_block};
+use report_text::text::{cut, word_at};
 use std::alloc::Global;
 
 /// A line of a section behind its first one.

@@ -13,8 +13,8 @@ ghost use Rattle.journal_text.specs.declared.refusal.JournalRefusal.{JournalRefu
 use crate::journal::Part;
 use crate::read::{Ahead, part_at};
 use crate::refusal::JournalRefusal;
-use crate::text::{behind, cut, last_number};
 use report_text::answer::{ALL_RAILS, Version};
+use report_text::text::{behind, cut, last_number};
 use std::alloc::Global;
 
 /// A journal whose head was read, and some of its parts: what is left of its text, and the number of the first line there.

@@ -3,7 +3,6 @@ ghost use Rattle.std.specs.Prelude.{◌++◌, OnOk, codes, decimal};
 ghost use Rattle.std.specs.List.{flat_map};
 ghost use Rattle.wire_io.specs.Causes.{HasCause};
 ghost use Rattle.wire_io.specs.Told.{Gains, GainsFront};
-ghost use Rattle.clause_core.specs.Batch.{Passes};
 ghost use Rattle.report_text.specs.Writing.{Puts};
 ghost use Rattle.journal_text.specs.Bounds.{IsJournal};
 ghost use Rattle.journal_text.specs.Lines.{line_text};
@@ -13,7 +12,6 @@ ghost use Rattle.journal_text.specs.Text.{head_text, steps_text, close_text, sec
 use crate::journal::{Journal, Part, PartKind, SectionText, StepLine};
 use crate::lines::put_question;
 use crate::target::Close;
-use clause_core::batch::Batch;
 use lrat_replay::write::put_step;
 use report_text::answer::Version;
 use report_text::write::{put_block, put_number};
@@ -49,16 +47,14 @@ fn put_lead<K: Sink>(
     buffer.put(sink, b"\n")
 }
 
-/// Adds the lines of steps behind what the batch holds.
-fn add_steps<K: Sink>(batch: &mut Batch, sink: &mut K, steps: &[StepLine]) -> Result<(), Failed>
-    ensures ok { OnOk result (Passes (K.got sink.old) (K.got sink.new) batch.old batch.new (flat_map line_text steps.now)) }
-    ensures front { GainsFront (K.got sink.old) (K.got sink.new) (batch.old ++ flat_map line_text steps.now) }
-    ensures cause { HasCause (K.faults sink.old) (K.faults sink.new) result }
+/// Puts the lines of steps.
+fn put_steps<K: Sink>(buffer: &mut Buffer, sink: &mut K, steps: &[StepLine]) -> Result<(), Failed>
+    ensures { Puts (K.got sink.old) (K.got sink.new) buffer.old buffer.new (K.faults sink.old) (K.faults sink.new) result (flat_map line_text steps.now) }
 {
     for line in steps {
         let step = &line.step;
         put_step(
-            batch,
+            buffer,
             sink,
             step.id,
             step.clause.as_slice(),
@@ -66,25 +62,6 @@ fn add_steps<K: Sink>(batch: &mut Batch, sink: &mut K, steps: &[StepLine]) -> Re
         )?;
     }
     Ok(())
-}
-
-/// Writes the lines of steps, or a front of them where the sink fails.
-fn write_steps<K: Sink>(sink: &mut K, steps: &[StepLine]) -> Result<(), Failed>
-    ensures ok { OnOk result (Gains (K.got sink.old) (K.got sink.new) (flat_map line_text steps.now)) }
-    ensures front { GainsFront (K.got sink.old) (K.got sink.new) (flat_map line_text steps.now) }
-    ensures cause { HasCause (K.faults sink.old) (K.faults sink.new) result }
-{
-    let mut batch = Batch::new();
-    add_steps(&mut batch, sink, steps)?;
-    batch.flush(sink)
-}
-
-/// Puts the lines of steps: what waits goes to the sink, and they go behind it in pieces of their own.
-fn put_steps<K: Sink>(buffer: &mut Buffer, sink: &mut K, steps: &[StepLine]) -> Result<(), Failed>
-    ensures { Puts (K.got sink.old) (K.got sink.new) buffer.old buffer.new (K.faults sink.old) (K.faults sink.new) result (flat_map line_text steps.now) }
-{
-    buffer.flush(sink)?;
-    write_steps(sink, steps)
 }
 
 /// Puts the last line of a section.

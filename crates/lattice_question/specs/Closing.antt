@@ -1,4 +1,4 @@
--- How the section of a question closes, for the crate's own proofs.
+-- For the crate's own proofs: how the section of a question closes.
 use Rattle.std.specs.Prelude.{◌≡◌, ℕ, ◌≤◌, List, [], ◌++◌, All, IfSome}
 use Rattle.std.specs.declared.option.Option.{Option}
 use Rattle.clause_core.specs.Formula.{HasNoSolution, IsSatisfiedBy}

@@ -1,4 +1,4 @@
--- Lists of clauses by their first literals. Only proofs and private contracts of this crate speak of them.
+-- For the crate's own proofs: lists of clauses by their first literals.
 use Rattle.std.specs.Prelude.{◌≡◌, ℕ, ◌+◌, ◌*◌, ◌<◌, ◌≤◌, ◌++◌, Bool, List, [], ◌∷◌, length, slice_index_or}
 use Rattle.std.specs.List.{Contains}
 use Rattle.clause_core.specs.Literal.{Literal, number}

@@ -1,4 +1,4 @@
--- A status, literal by literal.
+-- For the crate's own proofs: a status, literal by literal.
 use Rattle.std.specs.Prelude.{cond}
 use Rattle.clause_core.specs.Literal.{Literal, same}
 use Rattle.lrat_replay.specs.declared.status.Status.{Status}

@@ -1,4 +1,4 @@
--- Clauses whose literals are all known.
+-- For the crate's own proofs: clauses whose literals are all known.
 use Rattle.std.specs.Prelude.{◌≡◌, true, List}
 use Rattle.std.specs.List.{Contains}
 use Rattle.clause_core.specs.Literal.{Literal, has}

@@ -1,4 +1,4 @@
--- What must stand on the next lines, by the lines before: what the private parts of reading speak of.
+-- For the crate's own proofs: what must stand on the next lines, by the lines before: what the private parts of reading speak of.
 use Rattle.std.specs.Prelude.{◌≡◌, ◌≢◌, ℕ, ◌+◌, ◌*◌, ◌<◌, ◌≤◌, ◌⊎◌, List, [], ◌∷◌, ◌++◌, Bool, true, false, length, map, All, codes, replicate, Some, None}
 use Rattle.std.specs.declared.option.Option.{Option}
 use Rattle.std.specs.Fmt.{decimal}

@@ -1,4 +1,4 @@
--- What the private parts of writing say.
+-- What a call says that puts text into a buffer before a sink.
 use Rattle.std.specs.Prelude.{ℕ, List, ◌∷◌, ◌++◌, OnOk, Result}
 use Rattle.std.specs.declared.option.Option.{Option}
 use Rattle.std.specs.List.{flat_map}

@@ -9,5 +9,5 @@ mod heading;
 mod line;
 pub mod report;
 pub mod shape;
-mod text;
+pub mod text;
 pub mod write;

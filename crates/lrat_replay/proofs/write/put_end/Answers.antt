@@ -5,7 +5,7 @@ use Rattle.clause_core.proofs.Tools.{stop-one, stop-two, stop-three, all-three}
 use Rattle.lrat_replay.proofs.write.put_end.Goals as goal
 
 pub returns-in_err-put-clause-front : goal.returns-in_err-put-clause-front
-returns-in_err-put-clause-front g c = stop-one _ _ c.args.batch.now (codes "0 ") (hints_text c.args.hints.now) (codes "0\n") c.in_err-put.ensures.front
+returns-in_err-put-clause-front g c = stop-one _ _ c.args.buffer.now (codes "0 ") (hints_text c.args.hints.now) (codes "0\n") c.in_err-put.ensures.front
 
 pub returns-in_err-put_hints-clause-front : goal.returns-in_err-put_hints-clause-front
 returns-in_err-put_hints-clause-front g c = stop-two _ _ _ _ _ _ _ _ c.in_ok-put.ensures.ok c.in_err-put_hints.ensures.front
