@@ -15,11 +15,12 @@ pub behind-none : (o : Result (List Line) LratRefusal) → o ≡ behind_lines []
 behind-none (Err refusal) = refl
 behind-none (Ok lines) = refl
 
+pub behind-line : (lines : List Line) (line : Line) (o : Result (List Line) LratRefusal) → behind_lines lines (before (Ok line) o) ≡ behind_lines (lines ++ line ∷ []) o
+behind-line lines line (Err refusal) = refl
+behind-line lines line (Ok later) = ap Ok (sym (append_assoc lines (line ∷ []) later))
+
 pub behind-more : (lines : List Line) (row : Row) (line : Line) (rows : List Row) → line_of row ≡ Ok line → behind_lines lines (lines_say (row ∷ rows)) ≡ behind_lines (lines ++ line ∷ []) (lines_say rows)
-behind-more lines row line rows e = ap (λ o. behind_lines lines (before o (lines_say rows))) e ∙ by (lines_say rows) where
-  by : (o : Result (List Line) LratRefusal) → behind_lines lines (before (Ok line) o) ≡ behind_lines (lines ++ line ∷ []) o
-  by (Err refusal) = refl
-  by (Ok later) = ap Ok (sym (append_assoc lines (line ∷ []) later))
+behind-more lines row line rows e = ap (λ o. behind_lines lines (before o (lines_say rows))) e ∙ behind-line lines line (lines_say rows)
 
 pub behind-refused : (lines : List Line) (row : Row) (rows : List Row) (refusal : LratRefusal) → line_of row ≡ Err refusal → behind_lines lines (lines_say (row ∷ rows)) ≡ Err refusal
 behind-refused lines row rows refusal e = ap (λ o. behind_lines lines (before o (lines_say rows))) e

@@ -20,3 +20,5 @@ pub use Rattle.lrat_replay.proofs.StatusLaws.{conflict-is, forces-is, is-conflic
 pub use Rattle.lrat_replay.proofs.StepLaws.{kind-is_step, kind-line}
 -- A ledger's identifiers tell whether a step was kept.
 pub use Rattle.lrat_replay.proofs.TallyLaws.{added, fits}
+-- Lines, one after the other.
+pub use Rattle.lrat_replay.proofs.ReadLaws.{behind-line, behind-none, behind_lines}

@@ -8,6 +8,7 @@ pub mod Hints
 pub mod Store
 pub mod Replay
 pub mod LratRead
+pub mod LineRead
 pub mod LratText
 pub mod StepRead
 pub mod Ledger

@@ -7,11 +7,12 @@ use clause_core::lit::Lit;
 use std::alloc::Global;
 use wire_io::fault::NoMemory;
 
-/// A set of literals: those whose stamp is the present one. A stamp is a byte, so that sets stay near the processor.
+/// A set of literals: those whose stamp is the present one. A stamp has two bytes, so that sets stay near the processor and all
+/// stamps are made anew only once in 65,535 times.
 #[derive(Drop)]
 pub struct Marks {
-    stamps: Vec<u8>,
-    present: u8,
+    stamps: Vec<u16>,
+    present: u16,
     ghost begun: { 0 < present },
     ghost past: { All (λ stamp. stamp ≤ present) stamps.items },
 }
@@ -56,7 +57,7 @@ impl Marks {
         ensures empty { known_of self.new ≡ nothing }
         ensures room { room self.new ≡ room self.old }
     {
-        if self.present == u8::MAX {
+        if self.present == u16::MAX {
             self.stamps.fill(0);
             self.present = 1;
         } else {
