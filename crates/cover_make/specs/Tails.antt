@@ -1,4 +1,4 @@
--- For the crate's own proofs: what the cubes behind each place of a list have.
+-- What the cubes behind each place of a list have.
 use Rattle.std.specs.Prelude.{ℕ, List, [], ◌∷◌, ◌++◌}
 use Rattle.cube_core.specs.Members.{Assignments}
 use Rattle.cube_core.specs.Cube.{Product}

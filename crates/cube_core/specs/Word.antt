@@ -1,4 +1,4 @@
--- For the crate's own proofs: words of 64 bits that stand for 64 assignments.
+-- Words of 64 bits that stand for 64 assignments.
 use Rattle.std.specs.Prelude.{◌≡◌, ℕ, ◌<◌}
 use Rattle.cube_core.specs.Assignment.{bit}
 use Rattle.cube_core.specs.Cube.{Product, literal_of, agrees, each_below}

@@ -15,6 +15,7 @@ mod JudgeLaws
 mod SettledLaws
 mod CommandLaws
 mod SideAuditLaws
+mod CheckLaws
 mod SynthLists
 mod TallyLaws
 mod SynthLaws

@@ -6,20 +6,17 @@ ghost use Rattle.journal_text.specs.Bounds.{IsJournal};
 ghost use Rattle.journal_text.specs.Parts.{parts_of_journal};
 ghost use Rattle.journal_text.specs.Reading.{Gives as GivesJournal, HasLineNumbers};
 ghost use Rattle.journal_text.specs.Text.{journal_text};
-ghost use Rattle.lrat_replay.specs.LratRead.{lrat_of};
 ghost use Rattle.pla_reader.specs.Parts.{parts_of, IsPla};
 ghost use Rattle.pla_reader.specs.Reading.{Reads};
 ghost use Rattle.report_text.specs.Bounds.{IsReport};
 ghost use Rattle.report_text.specs.Reading.{Gives};
 ghost use Rattle.report_text.specs.Report.{parts_of_report};
 ghost use Rattle.wire_io.specs.Told.{IsSpent, Loses, LosesUpTo};
-ghost use Rattle.four_lattice.specs.Check.{end_line};
 ghost use Rattle.four_lattice.specs.Devices.{change, unread, EndsTest};
 ghost use Rattle.four_lattice.specs.Inputs.{EndsPla, EndsCnf, EndsLrat, EndsReport, EndsJournal, RefusesArray};
 ghost use Rattle.four_lattice.specs.Judge.{as_array};
 ghost use Rattle.four_lattice.specs.Uses.{most_pla_bytes, most_cnf_bytes, most_side_bytes};
 
-use crate::check::last_line;
 use crate::ending::{Ending, InputRefusal, Refusal, SideRefusal};
 use clause_core::formula::Formula;
 use clause_core::read::read_cnf;
@@ -29,8 +26,6 @@ use journal_text::journal::Journal;
 use journal_text::read::read_journal;
 use journal_text::refusal::JournalRefusal;
 use lattice_grid::array::Array;
-use lrat_replay::line::Line;
-use lrat_replay::read::read_lrat;
 use lrat_replay::refusal::LratRefusal;
 use pla_reader::pla::{MOST_BYTES, Pla, PlaRefusal, read_pla};
 use report_text::answer::Report;
@@ -102,7 +97,7 @@ fn ending_of_cnf(refusal: CnfRefusal) -> Ending
 }
 
 /// How a run ends that refuses the lines of a proof.
-fn ending_of_lrat(refusal: LratRefusal) -> Ending
+pub(crate) fn ending_of_lrat(refusal: LratRefusal) -> Ending
     ensures refused { refusal ≢ LratRefusal.NoMemory → result ≡ Ending.Refused (Refusal.Side (SideRefusal.Lrat refusal)) }
     ensures wanting { refusal ≡ LratRefusal.NoMemory → result ≡ Ending.NoMemory }
 {
@@ -262,35 +257,6 @@ pub(crate) fn input_cnf<S: Source>(alloc: Global, pla: &mut S) -> Result<Formula
     }
 }
 
-/// The lines of a side file, and the number of the line on which it ends.
-#[derive(Drop)]
-pub(crate) struct Proof {
-    pub(crate) lines: Vec<Line>,
-    pub(crate) last: u32,
-}
-
-/// The lines that a side file has, or how the run ends.
-pub(crate) fn input_proof<S: Source>(alloc: Global, side: &mut S) -> Result<Proof, Ending>
-    ensures reads { IfOk result (λ proof. IfSome (S.left side.old) (λ bytes. (length bytes ≤ most_side_bytes) × (lrat_of bytes ≡ Ok proof.lines.items))) }
-    ensures last { IfOk result (λ proof. IfSome (S.left side.old) (λ bytes. proof.last ≡ end_line bytes)) }
-    ensures spent { OnOk result (IsSpent (S.left side.new)) }
-    ensures taken { OnOk result (LosesUpTo (S.left side.old) (S.left side.new) most_side_bytes) }
-    ensures ends { IfErr result (λ ending. EndsLrat ending (change (S.left side.old) (S.faults side.old) (S.left side.new) (S.faults side.new))) }
-    ensures later { S.faults side.old ≤ S.faults side.new }
-{
-    let bytes = match read_all(alloc, side, MOST_SIDE_BYTES) {
-        Ok(bytes) => bytes,
-        Err(fault) => return Err(ending_of_read(fault, Refusal::Side(SideRefusal::TooLong))),
-    };
-    match read_lrat(alloc, &bytes) {
-        Ok(lines) => Ok(Proof {
-            lines,
-            last: last_line(&bytes),
-        }),
-        Err(refusal) => Err(ending_of_lrat(refusal)),
-    }
-}
-
 /// The report that a side file has, or how the run ends.
 pub(crate) fn input_report<S: Source>(alloc: Global, side: &mut S) -> Result<Report, Ending>
     ensures reads { IfOk result (λ report. IfSome (S.left side.old) (λ bytes. (length bytes ≤ most_side_bytes) × Gives bytes (Ok (parts_of_report report)))) }
@@ -310,12 +276,13 @@ pub(crate) fn input_report<S: Source>(alloc: Global, side: &mut S) -> Result<Rep
     }
 }
 
-/// The bytes of a side file that is to be a journal, or how the run ends.
+/// The bytes of a side file that is to be steps or a journal, or how the run ends.
 pub(crate) fn input_side<S: Source>(alloc: Global, side: &mut S) -> Result<Vec<u8>, Ending>
     ensures all { IfOk result (λ bytes. Loses (S.left side.old) (S.left side.new) bytes.items) }
     ensures few { IfOk result (λ bytes. length bytes.items ≤ most_side_bytes) }
     ensures spent { OnOk result (IsSpent (S.left side.new)) }
     ensures ends { IfErr result (λ ending. EndsJournal ending (change (S.left side.old) (S.faults side.old) (S.left side.new) (S.faults side.new))) }
+    ensures steps_end { IfErr result (λ ending. EndsLrat ending (change (S.left side.old) (S.faults side.old) (S.left side.new) (S.faults side.new))) }
     ensures later { S.faults side.old ≤ S.faults side.new }
 {
     match read_all(alloc, side, MOST_SIDE_BYTES) {

@@ -1,4 +1,4 @@
--- For the crate's own proofs: lattices by the control at each place.
+-- Lattices by the control at each place.
 use Rattle.std.specs.Prelude.{◌≡◌, ◌*◌, length}
 use Rattle.lattice_grid.specs.declared.control.Control.{Control}
 use Rattle.lattice_grid.specs.declared.shape.Place.{Place}

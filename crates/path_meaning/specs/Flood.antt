@@ -1,4 +1,4 @@
--- For the crate's own proofs: a flood of the on-cells of a rectangle from its top row.
+-- A flood of the on-cells of a rectangle from its top row.
 use Rattle.std.specs.Prelude.{◌≡◌, ◌≢◌, ◌⊎◌, ℕ, ◌+◌, ◌<◌, Bool, IsTrue, List, length, slice_index, slice_index_or}
 use Rattle.lattice_grid.specs.declared.shape.Place.{Place}
 use Rattle.lattice_grid.specs.Rectangle.{Size}

@@ -1,4 +1,4 @@
--- For the crate's own proofs: what a flood over the cells of a rectangle keeps: which cells are marked, and which of them wait to be looked at.
+-- What a flood over the cells of a rectangle keeps: which cells are marked, and which of them wait to be looked at.
 use Rattle.std.specs.Prelude.{◌≡◌, ℕ, ◌+◌, ◌*◌, ◌<◌, ◌≤◌, ◌&&◌, ◌==◌, Bool, not, List, length, All, slice_index, slice_index_or, slice_set, if◌then◌else◌}
 use Rattle.std.specs.List.{count_by}
 use Rattle.lattice_grid.specs.declared.shape.Place.{Place}

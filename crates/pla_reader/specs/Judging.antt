@@ -1,4 +1,4 @@
--- For the crate's own proofs: what a call answers to a line that has a fault or none.
+-- What a call answers to a line that has a fault or none.
 use Rattle.std.specs.Prelude.{◌≡◌, Option, Some, None, Result, Ok, Err}
 use Rattle.pla_reader.specs.declared.fault.LineFault.{LineFault}
 use Rattle.pla_reader.specs.declared.fault.Stop.{Stop}

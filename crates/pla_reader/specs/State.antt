@@ -1,4 +1,4 @@
--- For the crate's own proofs: what is kept of the lines so far, and that it is what they give.
+-- What is kept of the lines so far, and that it is what they give.
 use Rattle.std.specs.Prelude.{◌≡◌, ℕ, ◌≤◌, List, [], ◌∷◌, ◌++◌, length, Result, Ok, Err, map, Option, Some, None, IfSome, MatchOption, unwrap_or}
 use Rattle.std.specs.Option.{option_map}
 use Rattle.pla_reader.specs.declared.kind.Kind.{Kind}

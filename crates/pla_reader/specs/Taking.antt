@@ -1,4 +1,4 @@
--- For the crate's own proofs: taking the lines of a text, one after another.
+-- Taking the lines of a text, one after another.
 use Rattle.std.specs.Prelude.{◌≡◌, ◌≢◌, ℕ, Bool, false, List, [], ◌∷◌, ◌++◌, length, Result, Ok, Err, Some, None}
 use Rattle.std.specs.List.{sum_by}
 use Rattle.pla_reader.specs.declared.fault.LineFault.{LineFault}

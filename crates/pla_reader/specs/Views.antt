@@ -1,4 +1,4 @@
--- For the crate's own proofs: lines and what they say, without where they lie in memory.
+-- Lines and what they say, without where they lie in memory.
 use Rattle.pla_reader.specs.declared.line.Line.{Line as Placed}
 use Rattle.pla_reader.specs.declared.saying.Saying.{Saying}
 use Rattle.pla_reader.specs.declared.saying.Saying.TheVariants as saying
