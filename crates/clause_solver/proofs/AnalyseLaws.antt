@@ -90,11 +90,11 @@ module _ (clauses : List (List Literal)) (values : List Value) (fresh : AreFresh
     pub reason : (id : ℕ) → v.reason ≡ Some id → IsReason clauses (known_by (oldest m values)) v.lit id
     reason id e = reason_of clauses (known_by (oldest m values)) v.lit v.reason id e (subst (HaveReasons clauses) up (reasons-drop clauses values (length values - n) reasons)).0
 
-    pub resolved_here : (id : ℕ) (k : IsReason clauses (known_by (oldest m values)) v.lit id) (seen' : Known) (hints' : List ℤ) → ((x : Literal) → seen x ≡ true → seen' x ≡ true) → ((l : Literal) → has k.clause l ≡ true → seen' (flip l) ≡ true) → hints' ≡ pos id ∷ hints →
+    pub resolved_here : (id : ℕ) (k : IsReason clauses (known_by (oldest m values)) v.lit id) (seen' : Known) (hints' : List ℤ) → ((x : Literal) → seen x ≡ true → seen' x ≡ true) → ((l : Literal) → has k.clause l ≡ true → (v.lit ≡ l) ⊎ (seen' (flip l) ≡ true)) → hints' ≡ pos id ∷ hints →
         IsReduced (at_of clauses) (known_by values) (oldest m values) seen' clause hints'
     resolved_here id k seen' hints' more marked h =
         subst (λ hs. IsReduced (at_of clauses) (known_by values) (oldest m values) seen' clause hs) (sym h)
-        (reduced_resolve (at_of clauses) (known_by values) (fresh_consistent values fresh) v (oldest m values) within fresh_here seen clause hints here id k.clause (at_found clauses id k.place k.clause k.id_is k.found) k.unit seen' more (λ l q. inr (marked l q)))
+        (reduced_resolve (at_of clauses) (known_by values) (fresh_consistent values fresh) v (oldest m values) within fresh_here seen clause hints here id k.clause (at_found clauses id k.place k.clause k.id_is k.found) k.unit seen' more marked)
 
   pub last : (seen : Known) (clause : List Literal) (hints : List ℤ) (n : ℕ) → n ≤ 0 → IsReduced (at_of clauses) (known_by values) (oldest n values) seen clause hints → run (at_of clauses) (denied clause) hints ≡ Accepted
   last seen clause hints n e r = reduced_end (at_of clauses) (known_by values) (fresh_consistent values fresh) seen clause hints

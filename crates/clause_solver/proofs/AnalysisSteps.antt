@@ -1,5 +1,5 @@
 -- What the analysis of a conflict keeps from one value to the next older one.
-use Rattle.std.proofs.Common.{◌≡◌, ℕ, zero, suc, ◌+◌, ◌-◌, ◌<◌, ◌≤◌, Bool, true, false, List, [], ◌∷◌, ◌++◌, length, map, reverse, ◌⊎◌, refl, sym, ap, ◌∙◌, subst, arith, pos, Option, None, Some, drop}
+use Rattle.std.proofs.Common.{◌≡◌, ℕ, zero, suc, ◌+◌, ◌-◌, ◌<◌, ◌≤◌, Bool, true, false, List, [], ◌∷◌, ◌++◌, length, map, reverse, ◌⊎◌, inr, refl, sym, ap, ◌∙◌, subst, arith, pos, Option, None, Some, drop}
 use Rattle.std.specs.Prelude.{slice_get}
 use Rattle.std.proofs.lemmas.Bool.{both_ways, true≢false}
 use Rattle.clause_core.specs.Literal.{Literal, flip, has}
@@ -74,7 +74,7 @@ module _ (clauses : List (List Literal)) (values : List Value) (fresh : AreFresh
     low = below values start seen m v fresh_here
 
     pub analysis_resolve : (id : ℕ) → MayResolve (known_by (oldest start values)) (oldest m values) seen v id → seen v.lit ≡ true → (k : IsReason clauses (known_by (oldest m values)) v.lit id)
-        → (seen' : Known) → ((x : Literal) → seen x ≡ true → seen' x ≡ true) → ((l : Literal) → has k.clause l ≡ true → seen' (flip l) ≡ true) → (ids' : List ℕ) → ids' ≡ ids ++ id ∷ []
+        → (seen' : Known) → ((x : Literal) → seen x ≡ true → seen' x ≡ true) → ((l : Literal) → has k.clause l ≡ true → (v.lit ≡ l) ⊎ (seen' (flip l) ≡ true)) → (ids' : List ℕ) → ids' ≡ ids ++ id ∷ []
         → IsAnalysis clauses values start m seen' clause ids' after
     analysis_resolve id may q k seen' more marked ids' i = record {
       reduced = resolved_here clauses values fresh reasons n m v down some is fresh_here seen clause (map pos (reverse ids)) a.reduced id k seen' (map pos (reverse ids')) more marked (hint_more ids ids' id i);
@@ -146,6 +146,6 @@ module _ (clauses : List (List Literal)) (values : List Value) (fresh : AreFresh
         → (seen' : Known) → ((x : Literal) → seen x ≡ true → seen' x ≡ true) → ((l : Literal) → has k.clause l ≡ true → seen' (flip l) ≡ true) → (ids' : List ℕ) → ids' ≡ ids ++ id ∷ []
         → IsRefuting clauses values m seen' ids'
     refuting_resolve id k seen' more marked ids' i = record {
-      reduced = resolved_here clauses values fresh reasons n m v down some is fresh_here seen [] (map pos (reverse ids)) a.reduced id k seen' (map pos (reverse ids')) more marked (hint_more ids ids' id i);
+      reduced = resolved_here clauses values fresh reasons n m v down some is fresh_here seen [] (map pos (reverse ids)) a.reduced id k seen' (map pos (reverse ids')) more (λ l h. inr (marked l h)) (hint_more ids ids' id i);
       numbers = numbers_more clauses ids ids' id k.place k.clause a.numbers i k.id_is k.found;
     }

@@ -21,3 +21,5 @@ mod Leading
 mod Learning
 mod Searching
 mod Restarting
+mod Placing
+mod AnalysisPlaces

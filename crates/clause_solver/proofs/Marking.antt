@@ -31,3 +31,23 @@ marking-more before known now clause i x h e m more here =
         | inr q ↦ subst (λ y. now (flip y) ≡ true) q here
       ];
     }
+
+-- the same, where the literal that a clause forced has no mark
+pub record IsMarkingOthers (before now : Known) (one : Literal) (clause : List Literal) : Type 0 where
+  pub kept : (x : Literal) → before x ≡ true → now x ≡ true
+  pub marked : (l : Literal) → has clause l ≡ true → (one ≡ l) ⊎ (now (flip l) ≡ true)
+
+pub others-none : (known : Known) (one : Literal) → IsMarkingOthers known known one []
+others-none known one = record { kept = λ x h. h; marked = λ l h. absurd (true≢false (sym h)) }
+
+pub others-more : (before known now : Known) (one : Literal) (clause : List Literal) (i : ℕ) (x : Literal) → i < length clause → x ≡ get_or clause i x → IsMarkingOthers before known one (take i clause) → ((y : Literal) → known y ≡ true → now y ≡ true) → (one ≡ x) ⊎ (now (flip x) ≡ true)
+    → IsMarkingOthers before now one (take (i + 1) clause)
+others-more before known now one clause i x h e m more here =
+    let longer : take (i + 1) clause ≡ take i clause ++ x ∷ [] = take_more clause i x h ∙ ap (λ y. take i clause ++ y ∷ []) (sym e) in
+    record {
+      kept = λ y k. more y (m.kept y k);
+      marked = λ l k. elim (has-push (take i clause) x l (subst (λ c. has c l ≡ true) longer k)) [
+        | inl q ↦ elim (m.marked l q) [ inl o ↦ inl o | inr o ↦ inr (more (flip l) o) ]
+        | inr q ↦ subst (λ y. (one ≡ y) ⊎ (now (flip y) ≡ true)) q here
+      ];
+    }

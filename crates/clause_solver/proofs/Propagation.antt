@@ -24,6 +24,13 @@ rest_more clauses known n clause below at here k c h e = elim (cases_eq k n) [
   | inr q ↦ below k c (omega arith) e
 ]
 
+pub free_few : (known : Known) (n : ℕ) → free known n ≤ n
+free_few known zero = omega arith
+free_few known (suc n) = let r = free_few known n in by (known (literal_of n)) r where
+  by : (b : Bool) → free known n ≤ n → cond b 0 1 + free known n ≤ suc n
+  by true r = omega arith
+  by false r = omega arith
+
 -- one more literal that is known
 module _ (known : Known) (l : Literal) where
   here : (n : ℕ) → same l (literal_of n) ≡ (number l == n)

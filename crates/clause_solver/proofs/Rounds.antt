@@ -1,7 +1,7 @@
 -- How rounds come together.
 use Rattle.std.proofs.Common.{◌≡◌, ℕ, zero, suc, ◌+◌, ◌-◌, ◌*◌, ◌<◌, ◌≤◌, Bool, true, false, not, cond, List, [], ◌∷◌, ◌++◌, length, ◌⊎◌, inl, inr, refl, sym, ap, ◌∙◌, subst, arith, length-append, None}
 use Rattle.std.specs.Prelude.{All}
-use Rattle.clause_core.specs.Literal.{Literal, literal_of}
+use Rattle.clause_core.specs.Literal.{Literal}
 use Rattle.lrat_replay.specs.Status.{Known}
 use Rattle.clause_core.specs.Formula.{IsOver}
 use Rattle.lrat_replay.specs.Book.{Book, Numbered, after_addition, is_empty}
@@ -13,7 +13,7 @@ use Rattle.clause_solver.specs.Plain.{AllRest, HaveReasons}
 use Rattle.clause_solver.specs.Search.{IsReady, Moment, LearnsNew, LearnsUpTo, DecidesRound, SatisfiesRound, RoundSo}
 use Rattle.clause_solver.specs.declared.search.Round.{Round}
 use Rattle.clause_solver.specs.declared.search.Round.TheVariants.{Learned, Decided, Satisfied, Refuted, Spent}
-use Rattle.clause_solver.proofs.Propagation.{pushed_fewer}
+use Rattle.clause_solver.proofs.Propagation.{pushed_fewer, free_few}
 
 -- no steps
 pub learns_none : (book : Book) → LearnsNew book book 0
@@ -118,13 +118,6 @@ round_measure budget n w u v h k =
     subst (λ m. (budget - (n + 1)) * w + v < m * w + u) (sym e) (more (budget - (n + 1))) where
       more : (rest : ℕ) → rest * w + v < (rest + 1) * w + u
       more rest = omega arith
-
-free_few : (known : Known) (n : ℕ) → free known n ≤ n
-free_few known zero = omega arith
-free_few known (suc n) = let r = free_few known n in by (known (literal_of n)) r where
-  by : (b : Bool) → free known n ≤ n → cond b 0 1 + free known n ≤ suc n
-  by true r = omega arith
-  by false r = omega arith
 
 pub unassigned_few : (track : Track) (vars : ℕ) → track.vars ≡ vars → unassigned track < 2 * vars + 3
 unassigned_few track vars e = let r = free_few (known_by track.values) (2 * track.vars + 2) in omega arith

@@ -2,6 +2,7 @@ pub mod Trail
 pub mod Kept
 pub mod Plain
 pub mod Analysis
+pub mod Met
 pub mod Copy
 pub mod Watch
 pub mod Watching

@@ -48,6 +48,13 @@ pub record IsDecidedAt (values : List Value) (place : ℕ) : Type 0 where
   pub is : oldest (place + 1) values ≡ value ∷ oldest place values
   pub decided : value.reason ≡ None
 
+-- the value at a place, counted from the oldest, is this literal
+pub record StandsAt (values : List Value) (l : Literal) (place : ℕ) : Type 0 where
+  pub value : Value
+  pub within : place < length values
+  pub is : oldest (place + 1) values ≡ value ∷ oldest place values
+  pub lit_is : value.lit ≡ l
+
 -- how many literals of numbers below n are not known
 abbrev pub free : Known → ℕ → ℕ
 free known zero = 0

@@ -8,11 +8,12 @@ ghost use Rattle.clause_solver.specs.Plain.{HaveReasons, IsConflictAt};
 ghost use Rattle.clause_solver.specs.Search.{IsReady, LearnsNew, LearnsUpTo};
 ghost use Rattle.clause_solver.specs.Watching.{IsWorking, IsLearning, HasAdvanced};
 
-use crate::analyse::{analyse, refute};
+use crate::analyse::{Analysis, analyse};
 use crate::decide::release;
 use crate::learn::learn;
 use crate::level::next_decision;
 use crate::order::Order;
+use crate::refute::refute;
 use crate::watch::is_short;
 use crate::work::Work;
 use clause_core::lit::Lit;
@@ -40,10 +41,10 @@ fn settle_learned(work: &mut Work, clause: &[Lit]) -> Result<(), NoMemory>
 
 /// Learns the clause of a conflict at a level that begins at `start`, and goes back to where it forces a literal.
 pub fn learn_conflict<L: Ledger>(
-    alloc: Global,
     ledger: &mut L,
     order: &mut Order,
     work: &mut Work,
+    analysis: &mut Analysis,
     conflict: usize,
     start: usize,
 ) -> Result<(), LearnFault>
@@ -64,27 +65,19 @@ pub fn learn_conflict<L: Ledger>(
     ensures later { L.faults ledger.old ≤ L.faults ledger.new }
     ensures origin { (L.origin ledger.new ≡ L.origin ledger.old) ⊎ (L.origin ledger.new ≡ []) }
 {
-    let learned = analyse(
-        alloc,
-        order,
-        &work.trail,
-        &work.clauses,
-        &mut work.seen,
-        conflict,
-        start,
-    )?;
-    let keep = next_decision(&work.trail, learned.after, start);
+    analyse(order, &work.trail, &work.clauses, analysis, conflict, start)?;
+    let keep = next_decision(&work.trail, analysis.after, start);
     release(order, &work.trail, keep)?;
     work.trail.back(keep);
     work.looked = keep;
     learn(
-        alloc,
         ledger,
         &mut work.clauses,
-        &learned.clause,
-        &learned.hints,
+        &analysis.clause,
+        &analysis.hints,
+        &mut analysis.signed,
     )?;
-    settle_learned(work, &learned.clause)?;
+    settle_learned(work, &analysis.clause)?;
     Ok(())
 }
 
@@ -110,7 +103,6 @@ pub fn restart(order: &mut Order, work: &mut Work) -> Result<(), NoMemory>
 pub fn refute_conflict<L: Ledger>(
     alloc: Global,
     ledger: &mut L,
-    order: &mut Order,
     work: &mut Work,
     conflict: usize,
 ) -> Result<(), LearnFault>
@@ -126,13 +118,7 @@ pub fn refute_conflict<L: Ledger>(
     ensures later { L.faults ledger.old ≤ L.faults ledger.new }
     ensures origin { (L.origin ledger.new ≡ L.origin ledger.old) ⊎ (L.origin ledger.new ≡ []) }
 {
-    let hints = refute(
-        alloc,
-        order,
-        &work.trail,
-        &work.clauses,
-        &mut work.seen,
-        conflict,
-    )?;
-    learn(alloc, ledger, &mut work.clauses, &[], &hints)
+    let ids = refute(alloc, &work.trail, &work.clauses, &mut work.seen, conflict)?;
+    let mut hints = Vec::new(alloc);
+    learn(ledger, &mut work.clauses, &[], &ids, &mut hints)
 }

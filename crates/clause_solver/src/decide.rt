@@ -64,17 +64,6 @@ pub fn unassigned(order: &mut Order, trail: &Trail) -> Option<Lit>
     }
 }
 
-/// Notes which values stay for good, before a decision.
-pub fn note_fixed(order: &mut Order, trail: &Trail) {
-    let count = trail.len();
-    if order.is_undecided() {
-        for place in order.fixed()..count {
-            order.fix(trail.value(place).lit.var());
-        }
-    }
-    order.decide(count);
-}
-
 /// Notes the values that are taken back, where so many are kept.
 pub fn release(order: &mut Order, trail: &Trail, keep: usize) -> Result<(), NoMemory> {
     for place in keep..trail.len() {

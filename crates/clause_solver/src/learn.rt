@@ -1,5 +1,5 @@
 //! A step is given to the ledger, and its clause kept.
-ghost use Rattle.std.specs.Prelude.{◌≡◌, ◌⊎◌, ℕ, ◌+◌, ◌<◌, ◌≤◌, ◌++◌, ◌∷◌, IfOk, OnOk, IsErrOf, true, false, All, List, [], length, map, pos, Err};
+ghost use Rattle.std.specs.Prelude.{◌≡◌, ◌⊎◌, ℕ, ◌+◌, ◌<◌, ◌≤◌, ◌++◌, ◌∷◌, OnOk, IsErrOf, true, false, All, List, [], length, map, pos, Err};
 ghost use Rattle.wire_io.specs.Causes.{Rose};
 ghost use Rattle.clause_core.specs.Formula.{IsOver};
 ghost use Rattle.lrat_replay.specs.Book.{run, denied, Accepted, some_flip, after_addition};
@@ -10,28 +10,27 @@ ghost use Rattle.clause_solver.specs.Copy.{IsCopy};
 use clause_core::clauses::Clauses;
 use clause_core::lit::Lit;
 use lrat_replay::ledger::{LearnFault, Ledger};
-use std::alloc::Global;
 use wire_io::fault::NoMemory;
 
-/// Identifiers as hints.
-fn signed(alloc: Global, ids: &[u32]) -> Result<Vec<i32>, NoMemory>
+/// Writes identifiers as hints, in place of others.
+fn sign(ids: &[u32], hints: &mut Vec<i32>) -> Result<(), NoMemory>
     requires { All (λ id. (0 < id) × (id < 2147483648)) ids.now }
-    ensures { IfOk result (λ hints. hints.items ≡ map pos ids.now) }
+    ensures { OnOk result (hints.new.items ≡ map pos ids.now) }
 {
-    let mut hints = Vec::with_capacity(alloc, ids.len())?;
+    hints.clear();
     for id in ids {
         hints.push(*id as i32)?;
     }
-    Ok(hints)
+    Ok(())
 }
 
-/// Gives the ledger the next step, which replay accepts with these hints, and keeps its clause.
+/// Gives the ledger the next step, which replay accepts with these hints, and keeps its clause; the hints are written anew.
 pub fn learn<L: Ledger>(
-    alloc: Global,
     ledger: &mut L,
     clauses: &mut Clauses,
     clause: &[Lit],
     ids: &[u32],
+    hints: &mut Vec<i32>,
 ) -> Result<(), LearnFault>
     requires copy { IsCopy (L.book ledger.old) clauses.old }
     requires whole { L.broken ledger.old ≡ false }
@@ -49,9 +48,9 @@ pub fn learn<L: Ledger>(
     ensures later { L.faults ledger.old ≤ L.faults ledger.new }
     ensures origin { (L.origin ledger.new ≡ L.origin ledger.old) ⊎ (L.origin ledger.new ≡ []) }
 {
-    let hints = signed(alloc, ids)?;
+    sign(ids, hints)?;
     let id = clauses.len() as u32 + 1;
-    ledger.learn(id, clause, &hints)?;
+    ledger.learn(id, clause, hints)?;
     clauses.push(clause)?;
     Ok(())
 }

@@ -6,11 +6,13 @@ mod conflict;
 mod decide;
 mod learn;
 mod level;
+mod met;
 mod model;
 mod order;
 #[cfg(test)]
 mod plain;
 mod propagate;
+mod refute;
 mod restart;
 mod search;
 pub mod solver;

@@ -21,8 +21,6 @@ struct Candidate {
     chosen: bool,
     /// Its last value.
     negated: bool,
-    /// Whether it has a value with no decision before it.
-    fixed: bool,
 }
 
 /// A heap of variables, the one of greatest activity first and of these the least, beside what is known of each; when the
@@ -46,7 +44,6 @@ impl Order {
             place: None,
             chosen: false,
             negated: false,
-            fixed: false,
         };
         let mut order = Order {
             candidates: vec![in alloc; first; vars as usize + 1]?,
@@ -214,24 +211,12 @@ impl Order {
         }
     }
 
-    /// Notes that a variable has its value for good.
-    pub fn fix(&mut self, var: u32) {
-        if let Some(candidate) = self.candidates.get_mut(var as usize) {
-            candidate.fixed = true;
-        }
-    }
-
     /// A variable is decided after so many values.
     pub fn decide(&mut self, count: usize) {
         if self.is_undecided {
             self.fixed = count;
             self.is_undecided = false;
         }
-    }
-
-    /// Whether nothing is decided.
-    pub fn is_undecided(&self) -> bool {
-        self.is_undecided
     }
 
     /// How many of the oldest values stay for good.
@@ -246,14 +231,6 @@ impl Order {
             .saturating_add(self.increment / 16)
             .min(u64::MAX / 2);
         self.restarts.count()
-    }
-
-    /// Whether a variable has its value for good.
-    pub fn is_fixed(&self, var: u32) -> bool {
-        match self.candidate(var) {
-            Some(candidate) => candidate.fixed,
-            None => false,
-        }
     }
 
     /// A variable was met in an analysis.

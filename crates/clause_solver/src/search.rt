@@ -7,8 +7,9 @@ ghost use Rattle.clause_solver.specs.Plain.{IsConflictAt};
 ghost use Rattle.clause_solver.specs.Search.{IsReady, Goes, RoundSo, SearchSo, LearnsUpTo};
 ghost use Rattle.clause_solver.specs.Watching.{IsWorking};
 
+use crate::analyse::Analysis;
 use crate::conflict::{learn_conflict, refute_conflict, restart};
-use crate::decide::{note_fixed, release, unassigned};
+use crate::decide::{release, unassigned};
 use crate::level::last_decision;
 use crate::order::Order;
 use crate::propagate::propagate;
@@ -51,7 +52,7 @@ fn decide(order: &mut Order, trail: &mut Trail) -> Result<Round, NoMemory>
     ensures satisfied { result ≡ Ok Round.Satisfied → (trail.new ≡ trail.old) × AreValued trail.old.vars (known_by trail.old.values) }
     ensures other { IfOk result (λ round. (round ≡ Round.Decided) ⊎ (round ≡ Round.Satisfied)) }
 {
-    note_fixed(order, trail);
+    order.decide(trail.len());
     let Some(lit) = unassigned(order, trail) else {
         return Ok(Round::Satisfied);
     };
@@ -65,6 +66,7 @@ fn end_at_conflict<L: Ledger>(
     ledger: &mut L,
     order: &mut Order,
     work: &mut Work,
+    analysis: &mut Analysis,
     conflict: usize,
     left: u32,
 ) -> Result<Round, LearnFault>
@@ -80,13 +82,13 @@ fn end_at_conflict<L: Ledger>(
     ensures origin { (L.origin ledger.new ≡ L.origin ledger.old) ⊎ (L.origin ledger.new ≡ []) }
 {
     let Some(start) = last_decision(&work.trail) else {
-        refute_conflict(alloc, ledger, order, work, conflict)?;
+        refute_conflict(alloc, ledger, work, conflict)?;
         return Ok(Round::Refuted);
     };
     if left == 0 {
         return Ok(Round::Spent);
     }
-    learn_conflict(alloc, ledger, order, work, conflict, start)?;
+    learn_conflict(ledger, order, work, analysis, conflict, start)?;
     if order.count() {
         restart(order, work)?;
     }
@@ -99,6 +101,7 @@ fn next_round<L: Ledger>(
     ledger: &mut L,
     order: &mut Order,
     work: &mut Work,
+    analysis: &mut Analysis,
     left: u32,
 ) -> Result<Round, LearnFault>
     requires working { IsWorking work.old }
@@ -113,7 +116,7 @@ fn next_round<L: Ledger>(
 {
     match propagate(work)? {
         None => Ok(decide(order, &mut work.trail)?),
-        Some(conflict) => end_at_conflict(alloc, ledger, order, work, conflict, left),
+        Some(conflict) => end_at_conflict(alloc, ledger, order, work, analysis, conflict, left),
     }
 }
 
@@ -139,9 +142,10 @@ pub fn search<L: Ledger>(
     work.trail.back(0);
     work.looked = 0;
     work.watches = Watches::for_clauses(alloc, width, &work.clauses)?;
+    let mut analysis = Analysis::new(alloc);
     let mut learned = 0;
     loop {
-        match next_round(alloc, ledger, order, work, budget - learned)? {
+        match next_round(alloc, ledger, order, work, &mut analysis, budget - learned)? {
             Round::Learned => learned += 1,
             Round::Decided => {}
             Round::Satisfied => return Ok(Ending::Satisfied),

@@ -15,6 +15,7 @@ use lrat_replay::tally::Tally;
 use std::alloc::Global;
 use std::fmt::Write;
 use std::test::Fail;
+use wire_io::fault::NoMemory;
 
 const FOUR: &[u8] = b"p cnf 2 4\n1 2 0\n1 -2 0\n-1 2 0\n-1 -2 0\n";
 
@@ -279,12 +280,11 @@ fn has_solution(alloc: Global, formula: &Formula) -> Result<bool, Fail> {
 }
 
 /// Whether scanning all clauses ends in a conflict where nothing is decided.
-fn is_refuted_by_scans(alloc: Global, formula: &Formula) -> Result<bool, Fail> {
+fn is_refuted_by_scans(alloc: Global, formula: &Formula) -> Result<bool, NoMemory> {
     let _count = formula.count();
-    let clauses = clauses_of(alloc, formula).ok().ok_or("memory")?;
-    let mut trail = Trail::new(alloc, formula.vars()).ok().ok_or("memory")?;
-    let conflict = propagate(&mut trail, &clauses).ok().ok_or("memory")?;
-    Ok(conflict.is_some())
+    let clauses = clauses_of(alloc, formula)?;
+    let mut trail = Trail::new(alloc, formula.vars())?;
+    Ok(propagate(&mut trail, &clauses)?.is_some())
 }
 
 #[test]
@@ -297,7 +297,8 @@ fn made_formulas_are_judged_alike(rt: HostRuntime) -> Result<(), Fail> {
         let mut solver = solver_of(alloc, text.as_bytes())?;
         assert!(rt; solve(&mut solver, 0).is_some_and(|answer| answer.is_ok()));
         let at_once = solver.stage() == Stage::Refuted;
-        assert_eq!(rt; at_once, is_refuted_by_scans(alloc, &formula)?);
+        let scanned = is_refuted_by_scans(alloc, &formula).ok().ok_or("memory")?;
+        assert_eq!(rt; at_once, scanned);
         assert!(rt; solve(&mut solver, 80).is_some_and(|answer| answer.is_ok()));
         let satisfied = solver.stage() == Stage::Satisfied;
         assert_eq!(rt; satisfied, has_solution(alloc, &formula)?);

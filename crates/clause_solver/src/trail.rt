@@ -1,5 +1,5 @@
 //! The trail.
-ghost use Rattle.std.specs.Prelude.{◌≡◌, ◌+◌, ◌<◌, ◌≤◌, ◌∷◌, [], length, IfOk, OnOk, OnErr, Bool};
+ghost use Rattle.std.specs.Prelude.{◌≡◌, ◌+◌, ◌<◌, ◌≤◌, ◌∷◌, [], length, IfOk, OnOk, OnErr, Bool, true};
 ghost use Rattle.clause_core.specs.Literal.{Literal};
 ghost use Rattle.clause_core.specs.Formula.{IsOver};
 ghost use Rattle.lrat_replay.specs.Status.{status};
@@ -12,12 +12,13 @@ use std::alloc::Global;
 use std::marker::Model;
 use wire_io::fault::NoMemory;
 
-/// Values in the order in which they came.
+/// Values in the order in which they came; for each variable the place of its last value.
 #[derive(Drop)]
 pub struct Trail {
     vars: u32,
     values: Vec<Value>,
     marks: Marks,
+    places: Vec<u32>,
 }
 
 impl Model for Trail {
@@ -34,7 +35,7 @@ impl Model for Trail {
 
 impl Trail {
     ghost use Rattle.clause_solver.specs.declared.value.Value.{Value};
-    ghost use Rattle.clause_solver.specs.Trail.{Track, known_by, IsFresh, AreFresh, IsVariableOf, AreOver, oldest};
+    ghost use Rattle.clause_solver.specs.Trail.{Track, known_by, IsFresh, AreFresh, IsVariableOf, AreOver, StandsAt, oldest};
 
     /// No values, over variables from 1 to `vars`.
     pub fn new(alloc: Global, vars: u32) -> Result<Trail, NoMemory>
@@ -46,6 +47,7 @@ impl Trail {
             vars,
             values: Vec::new(alloc),
             marks: Marks::new(alloc, width)?,
+            places: vec![in alloc; 0; vars as usize + 1]?,
         })
     }
 
@@ -81,8 +83,10 @@ impl Trail {
         ensures ok { OnOk result (self.new ≡ record { vars = self.old.vars; values = record { lit = lit; reason = reason } ∷ self.old.values }) }
         ensures err { OnErr result (self.new ≡ self.old) }
     {
+        let place = self.values.len() as u32;
         self.values.push(Value { lit, reason })?;
         self.marks.add(lit);
+        self.places[lit.var() as usize] = place;
         Ok(())
     }
 
@@ -103,6 +107,14 @@ impl Trail {
         ensures variable { IsVariableOf self.now.vars result.lit }
     {
         self.values[place]
+    }
+
+    /// The place of a value, where it is one.
+    pub fn place(&self, lit: Lit) -> usize
+        requires { IsVariableOf self.now.vars lit }
+        ensures { known_by self.now.values lit ≡ true → StandsAt self.now.values lit result }
+    {
+        self.places[lit.var() as usize] as usize
     }
 
     /// Takes the newest value back.

@@ -4,7 +4,7 @@ use crate::watch::Watches;
 use clause_core::clauses::Clauses;
 use lrat_replay::marks::Marks;
 
-/// The ledger's clauses, each at the place before its identifier; the trail; marks; which clauses watch which literals;
+/// The ledger's clauses, each at the place before its identifier; the trail; marks for a refutation; which clauses watch which literals;
 /// and how many of the oldest values were looked at since they came.
 #[derive(Drop)]
 pub struct Work {

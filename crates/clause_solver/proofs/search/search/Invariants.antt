@@ -5,8 +5,8 @@ use Rattle.clause_solver.specs.Search.{Goes, LearnsNew}
 use Rattle.clause_solver.specs.Watching.{IsWorking}
 use Rattle.clause_solver.proofs.search.search.Given as goal
 
-abbrev pub invariant-loop-learned : goal.invariant-loop-learned
-invariant-loop-learned g l = record {
+abbrev pub invariant-loop-analysis : goal.invariant-loop-analysis
+invariant-loop-analysis g l = record {
   within : l.learned ≤ l.budget;
   working : IsWorking l.work;
   goes : Goes (record { book = g.L.Ledger.book l.ledger; broken = g.L.Ledger.broken l.ledger; clauses = l.work.clauses; track = l.work.trail; width = room l.work.seen });
@@ -17,5 +17,5 @@ invariant-loop-learned g l = record {
   origin : (g.L.Ledger.origin l.ledger ≡ g.L.Ledger.origin l.fn.ledger) ⊎ (g.L.Ledger.origin l.ledger ≡ []);
 }
 
-abbrev pub decreases-loop-learned : goal.decreases-loop-learned
-decreases-loop-learned g l = (l.budget - l.learned) * (2 * l.fn.work.trail.vars + 3) + unassigned l.work.trail
+abbrev pub decreases-loop-analysis : goal.decreases-loop-analysis
+decreases-loop-analysis g l = (l.budget - l.learned) * (2 * l.fn.work.trail.vars + 3) + unassigned l.work.trail

@@ -3,6 +3,7 @@ use Rattle.std.proofs.lemmas.List.{reverse-append}
 use Rattle.lrat_replay.specs.Marks.{room}
 use Rattle.lrat_replay.specs.Status.{without_literal}
 use Rattle.clause_solver.specs.Trail.{known_by, AreFresh, AreOver}
+use Rattle.clause_solver.specs.Kept.{ArePlaced}
 use Rattle.clause_solver.proofs.TrailPlaces.{known-pop, number_below}
 use Rattle.clause_solver.proofs.trail.Trail.pop.Goals as goal
 
@@ -25,4 +26,6 @@ invariant_of-self c =
       same = c.remove.ensures.removed ∙ ap (λ k. without_literal k c.in-Some.value.lit) (c.self.invariant.same ∙ ap known_by newest) ∙ known-pop c.in-Some.value older fresh.0.unknown;
       over = over.1;
       fresh = fresh.1;
+      spread = c.self.invariant.spread;
+      placed = (subst (ArePlaced c.self.inside.places.items) newest c.self.invariant.placed).1;
     }

@@ -8,7 +8,7 @@ use Rattle.clause_solver.specs.Plain.{at_of}
 use Rattle.clause_solver.proofs.Propagation.{all_over, get_inside}
 use Rattle.clause_solver.proofs.AnalyseLaws.{last, same_at, AreNumbers, numbers_reverse}
 use Rattle.clause_solver.proofs.AnalysisSteps.{not_decided, refuting_first, refuting_pass, refuting_reason, refuting_resolve}
-use Rattle.clause_solver.proofs.analyse.refute.Goals as goal
+use Rattle.clause_solver.proofs.refute.refute.Goals as goal
 
 pub mark-requires : goal.mark-requires
 mark-requires c =

@@ -1,7 +1,7 @@
 use Rattle.std.proofs.Common.{◌≡◌, ◌≤◌, length}
 use Rattle.lrat_replay.specs.Marks.{known_of, room}
 use Rattle.clause_solver.proofs.AnalysisSteps.{IsRefuting}
-use Rattle.clause_solver.proofs.analyse.refute.Given as goal
+use Rattle.clause_solver.proofs.refute.refute.Given as goal
 
 abbrev pub invariant-loop-place : goal.invariant-loop-place
 invariant-loop-place l = record {
